@@ -256,8 +256,8 @@ fn refusals(text: &str, prefix: &str) -> Vec<(String, u64)> {
 fn the_refusals_agree_with_the_source() {
     let code = file("../crates/base/src/refusals.rt");
     let mut functions = code.split("pub fn ");
-    let body = functions.find(|function| function.starts_with("refusal_number("));
-    let source = refusals(body.expect("the function of the numbers"), "Refusal::");
+    let body = functions.find(|function| function.starts_with("number("));
+    let source = refusals(body.expect("the method of the numbers"), "Refusal::");
     let numbers: Vec<u64> = source.iter().map(|(_, number)| *number).collect();
     assert_eq!(numbers, (1..=16).collect::<Vec<u64>>());
     assert_eq!(refusals(&file("tilghorz/src/refusal.rs"), "Self::"), source);

@@ -1,4 +1,5 @@
 -- Characters and their cells: each determines the other, and both have the same characters and the same number of selectors.
+use Rattle.std.specs.Prelude.{Option}
 use mathlib.Core.Path.{◌≡◌, refl, ap, sym, ◌∙◌, subst}
 use mathlib.Core.Bool.{true, false, cond}
 use mathlib.Core.List.{List, [], ◌∷◌, ◌++◌, map, append-nil}
@@ -6,7 +7,6 @@ use Prim.Native.Nat.{ℕ, suc, ◌+◌}
 use native.Mathlib.Omega.{arith}
 use lib.ListN.{length}
 use Rattle.emoji.specs.Presentation.{as_selector, is_selector}
-use Rattle.emoji.specs.declared.presentation.FromSelector.{FromSelector}
 use Rattle.emoji.specs.declared.presentation.Presentation.{Presentation}
 use Rattle.scanner.specs.Classes.{strip}
 use Rattle.scanner.specs.Grammar.{S, no_selectors, selector_and}
@@ -18,11 +18,11 @@ use Rattle.analysis.specs.Cells.{Cell, add_char, cells, leading, selector_count,
 
 pub split_selector : (q : Presentation) (t : List ℕ) → split (as_selector q ∷ t) ≡ (q ∷ leading t, cells t)
 unfolding split add_char
-split_selector q t = ap (λ (f : FromSelector). add_char (as_selector q) f (split t)) (from_selector_lem q)
+split_selector q t = ap (λ (f : Option Presentation). add_char (as_selector q) f (split t)) (from_selector_lem q)
 
 pub split-char : (c : ℕ) (t : List ℕ) → is_selector c ≡ false → split (c ∷ t) ≡ ([], record { char = c; after = leading t } ∷ cells t)
 unfolding split add_char
-split-char c t e = ap (λ (f : FromSelector). add_char c f (split t)) (from-other c e)
+split-char c t e = ap (λ (f : Option Presentation). add_char c f (split t)) (from-other c e)
 
 -- If no selector leads, the first character is no selector.
 pub front-char : (c : ℕ) (t : List ℕ) → leading (c ∷ t) ≡ [] → is_selector c ≡ false

@@ -1,8 +1,8 @@
 -- The cells of items in a row: their formatted characters and their totals are those of the items, since the result of the rules
 -- for the last cell of an item does not depend on the text after the item.
+use Rattle.std.specs.Prelude.{None}
 use mathlib.Core.Path.{◌≡◌, refl, ap, sym, ◌∙◌, subst}
 use mathlib.Core.Bool.{Bool, true, false, false≢true}
-use mathlib.Core.Option.{none}
 use mathlib.Core.List.{List, [], ◌∷◌, ◌++◌, append_assoc, map}
 use Prim.Native.Nat.{ℕ, suc}
 use native.Mathlib.Omega.{arith}
@@ -128,13 +128,13 @@ no_cells (x ∷ xs) e = let z : suc (length (chars_of xs)) ≡ 0 = ap length e i
 
 data Stop (q : State) (k : Class) : Type 0 where
   at_end : k ≡ other → Stop q k
-  before : transition q k ≡ none → Stop q k
+  before : transition q k ≡ None → Stop q k
 
 record Head (q : State) (t : List ℕ) : Type 0 where
   pub lead : leading t ≡ []
   pub stop : Stop q (next other (cells t))
 
-head-char : {q : State} (c : ℕ) (t : List ℕ) → is_plain q ≡ false → transition q (class_of c) ≡ none → Head q (c ∷ t)
+head-char : {q : State} (c : ℕ) (t : List ℕ) → is_plain q ≡ false → transition q (class_of c) ≡ None → Head q (c ∷ t)
 head-char {q} c t i e = go (is_selector c) refl
   where
     go : (b : Bool) → is_selector c ≡ b → Head q (c ∷ t)
@@ -186,7 +186,7 @@ module _ (p : Policy) where
       (outs_append k (y ∷ xs) ys)
 
   -- After a complete stem the item ends only where no modification follows.
-  unit_ends : (c : ℕ) (k : Class) (s : List Presentation) → transition unit k ≡ none → outcome p c k s ≡ outcome p c other s
+  unit_ends : (c : ℕ) (k : Class) (s : List Presentation) → transition unit k ≡ None → outcome p c k s ≡ outcome p c other s
   unfolding transition by_modifier by_tags by_keycap
   unit_ends c selector s e = cc
   unit_ends c link s e = cc
@@ -197,7 +197,7 @@ module _ (p : Policy) where
   unit_ends c tag s e = cc
   unit_ends c other s e = refl
 
-  last-cell : (c : ℕ) (s : List Presentation) (q : State) (k : Class) → (has_variation_sequence c ≡ true → q ≡ unit) → transition q k ≡ none
+  last-cell : (c : ℕ) (s : List Presentation) (q : State) (k : Class) → (has_variation_sequence c ≡ true → q ≡ unit) → transition q k ≡ None
       → outcome p c k s ≡ outcome p c other s
   last-cell c s q k f e = go (has_variation_sequence c) refl
     where
@@ -206,7 +206,7 @@ module _ (p : Policy) where
       go false v = outcome_no_entry p c k s v ∙ sym (outcome_no_entry p c other s v)
 
   outs_same : {q r : State} (x : Cell) (xs : List Cell) (k : Class) → (has_variation_sequence x.char ≡ true → q ≡ unit)
-      → Walk q (chars_of xs) r → transition r k ≡ none
+      → Walk q (chars_of xs) r → transition r k ≡ None
       → outs k (x ∷ xs) ≡ outs other (x ∷ xs)
   outs_same {q} x [] k f stay e = ap (λ (o : Outcome). record { char = x.char; out = o } ∷ []) (last-cell x.char x.after q k f e)
   outs_same {q} x (y ∷ ys) k f (pass {q = r} s w) e =

@@ -1,5 +1,7 @@
 -- The bytes of the unit at an offset: they are within the slice, their cells are the unit's, and writing these cells writes the
 -- unit.
+use Rattle.base.specs.declared.Refusal.{Refusal}
+use Rattle.std.specs.Prelude.{Ok, Err, Result}
 use mathlib.Core.Path.{◌≡◌, refl, ap, sym, ◌∙◌, subst}
 use mathlib.Core.Bool.{Bool, true, false, cond}
 use mathlib.Core.List.{List, [], ◌∷◌, ◌++◌, append_assoc, map}
@@ -24,8 +26,6 @@ use Rattle.analysis.specs.Analysis.{render, renew, up_to_link}
 use Rattle.analysis.specs.Cells.{Cell, cells, leading, split, unsplit}
 use Rattle.analysis.specs.ChoicesAt.{cells_length, cells_from, cells_start, front_unit, replace_unit}
 use Rattle.analysis.specs.Decisions.{write_out}
-use Rattle.analysis.specs.declared.types.MendAnswer.{MendAnswer}
-use Rattle.analysis.specs.declared.types.MendAnswer.TheVariants.{Mended, Refused}
 use Rattle.analysis.proofs.Cells.{SelectorFree, cell_and, selector_free_cells, no_cell, split_selectors, split-unsplit, split-whole}
 use Rattle.analysis.proofs.ChoicesAt.{selectors_bytes}
 
@@ -109,20 +109,21 @@ module _ (raw : List ℕ) (at end : ℕ) (e : end ≡ cells_start raw at + cells
 -- ---- the call that writes the unit
 
 module _ (p : Policy) (raw : List ℕ) (at : ℕ) (q : Presentation) (out : List ℕ) where
-  pub replace_long : text_limit < length raw → unwritten (Refused TextTooLong) out ≡ replace_unit p raw at q out
+  pub replace_long : text_limit < length raw → unwritten (Err TextTooLong) out ≡ replace_unit p raw at q out
   unfolding replace_unit
   replace_long h = simp (lt-leb (length raw) text_limit h)
 
   module _ (h : length raw ≤ text_limit) where
-    pub replace-unit : {a : After MendAnswer ℕ} → a ≡ write_out (encode_all (render p (front_unit (cells_from raw at)) (q ∷ []))) out → a
+    pub replace-unit : {a : After (Result ℕ Refusal) ℕ}
+        → a ≡ write_out (encode_all (render p (front_unit (cells_from raw at)) (q ∷ []))) out → a
         ≡ replace_unit p raw at q out
     unfolding replace_unit
     replace-unit e = e ∙ simp (le-leb (length raw) text_limit h)
 
     -- At or after the end of the slice there is no unit.
-    pub replace-none : length raw ≤ at → record { answer = Mended 0; buffer = out } ≡ replace_unit p raw at q out
+    pub replace-none : length raw ≤ at → record { answer = Ok 0; buffer = out } ≡ replace_unit p raw at q out
     unfolding front_unit render renew encode_all split
     replace-none g =
         let w : (xs : List Cell) → List ℕ = λ xs. encode_all (render p (front_unit xs) (q ∷ [])) in
-        let n : record { answer = Mended 0; buffer = out } ≡ write_out (w []) out = sym (simp (le-leb 0 (length out) (omega arith))) in
+        let n : record { answer = Ok 0; buffer = out } ≡ write_out (w []) out = sym (simp (le-leb 0 (length out) (omega arith))) in
         replace-unit (n ∙ ap (λ (l : List ℕ). write_out (w (cells l)) out) (sym (stop_end raw at (read_char-past_end raw at g)).chars_none))

@@ -1,4 +1,5 @@
 -- The cells, the unit and the first choice at an offset of a slice, as the code reads them. A unit ends where the next link begins.
+use Rattle.std.specs.Prelude.{Some, None}
 use mathlib.Core.Path.{◌≡◌, refl, ap, ap₂, sym, ◌∙◌}
 use mathlib.Core.Bool.{Bool, true, false, cond, not, true≢false}
 use mathlib.Core.List.{List, [], ◌∷◌, ◌++◌, map}
@@ -35,7 +36,6 @@ use Rattle.analysis.specs.ChoicesAt.{
   front_unit,
 }
 use Rattle.analysis.specs.Rules.{Outcome, Slot, bare, decided, fixed, outcome}
-use Rattle.analysis.specs.declared.types.ChoiceStep.TheVariants.{Choice, End}
 use Rattle.analysis.specs.declared.types.ReplacementChoice.{ReplacementChoice}
 use Rattle.analysis.proofs.Cells.{by-chars, split-char, split_selector}
 use Rattle.analysis.proofs.CellsAt.{selectors_end, split_at}
@@ -174,7 +174,7 @@ undecided (fixed q) o c l = refl
 undecided (decided d) o c l = absurd (miss (0 ∷ 1 ∷ []) 2 tt o)
 
 module _ (p : Policy) (raw : List ℕ) (at : ℕ) where
-  pub choice_none : Unseen raw at → End ≡ choice_at p raw at
+  pub choice_none : Unseen raw at → None ≡ choice_at p raw at
   unfolding choice_at choices_from first_choice
   choice_none h = sym (ap (λ (a : List Presentation × List Cell). first_choice (choices_from p (at + 3 * length a.0) a.1))
       (cells-none raw at h))
@@ -222,11 +222,11 @@ module _ (p : Policy) (raw : List ℕ) (at : ℕ) where
       -- If the cell's slot takes a decision, the cell is the first choice, and its unit ends where the next link begins.
       pub choice-found : (d : Presentation) (last : ℕ) → o.slot ≡ decided d → last
           ≡ cells_start raw end + cells_length (up_to_link (cells_from raw end))
-          → Choice (record { start = at; end = last; next = end; default = d }) ≡ choice_at p raw at
+          → Some (record { start = at; end = last; next = end; default = d }) ≡ choice_at p raw at
       unfolding first_choice
       choice-found d last q f =
           let m : last ≡ end + cells_length (up_to_link (cells_from raw next)) =
           omega (arith, after.0, ap (λ (l : List Cell). cells_length (up_to_link l)) after.1) in
-          ap (λ (n : ℕ). Choice (record { start = at; end = n; next = end; default = d })) m
+          ap (λ (n : ℕ). Some (record { start = at; end = n; next = end; default = d })) m
           ∙ sym (from_cell ∙ ap (λ (s : Slot). first_choice
           (add_choice_at s own (choices_from p (cells_start raw end) (cells_from raw end)))) q)

@@ -1,5 +1,6 @@
 -- The item at an offset: its bytes are the encoding of its characters and lie within the text, and the totals of its characters are
 -- its counts.
+use Rattle.std.specs.Prelude.{Some, None}
 use mathlib.Core.Path.{◌≡◌, refl, ap, sym, ◌∙◌, subst}
 use mathlib.Core.Logic.{◌≢◌, inl, inr}
 use mathlib.Core.Bool.{Bool, true, false, cond, not, true≢false}
@@ -21,7 +22,6 @@ use Rattle.scanner.specs.Theorems.{Structured}
 use Rattle.scanner.specs.declared.ScanItem.{ScanItem}
 use Rattle.scanner.specs.declared.ScanKind.{ScanKind}
 use Rattle.scanner.specs.declared.ScanKind.TheVariants.{Passthrough}
-use Rattle.scanner.specs.declared.ScanStep.TheVariants as Step
 use Rattle.scanner.specs.contracts.ScanKind.{the_type as the-kind}
 use Rattle.scanner.proofs.Bytes.{scalar-front, size-chars, size-width, take_chars_lem}
 use Rattle.scanner.proofs.Reading.{item_derives}
@@ -109,12 +109,12 @@ pub record ItemAt (text : List ℕ) (at : ℕ) (before : TextCount) (i : ScanIte
   pub kind_is : i.kind ≡ item.kind
   pub count_is : end_count i ≡ count_after before item
 
-pub item_at_lem : (text : List ℕ) (at : ℕ) (before : TextCount) (i : ScanItem) → scan_at text at before ≡ Step.Item i
+pub item_at_lem : (text : List ℕ) (at : ℕ) (before : TextCount) (i : ScanItem) → scan_at text at before ≡ Some i
     → ItemAt text at before i
 unfolding scan_at scan_from first_of spans
 item_at_lem text at before i e = go (items (chars (drop at text))) refl e
   where
-    go : (l : List Item) → items (chars (drop at text)) ≡ l → first_of (spans at before l) ≡ Step.Item i → ItemAt text at before i
+    go : (l : List Item) → items (chars (drop at text)) ≡ l → first_of (spans at before l) ≡ Some i → ItemAt text at before i
     go [] f g = absurd (true≢false cc)
     go (x ∷ xs) f g =
         let e : span_of at before x ≡ i = cc in
@@ -125,11 +125,11 @@ pub not_passthrough : (k : ScanKind) → OneOf (1 ∷ 2 ∷ 3 ∷ []) (tag_of th
 not_passthrough k o e = miss (1 ∷ 2 ∷ 3 ∷ []) 0 tt (subst (λ (k : ScanKind). OneOf (1 ∷ 2 ∷ 3 ∷ []) (tag_of the-kind k)) e o)
 
 module _ (p : Policy) (text : List ℕ) (at : ℕ) (before : TextCount) where
-  pub analysis_end : scan_at text at before ≡ Step.End → End ≡ analysis_at p text at before
+  pub analysis_end : scan_at text at before ≡ None → End ≡ analysis_at p text at before
   unfolding scan_at scan_from first_of spans analysis_at analysis_of
   analysis_end e = go (items (chars (drop at text))) e
     where
-      go : (l : List Item) → first_of (spans at before l) ≡ Step.End → End ≡ analysis_of p at before l
+      go : (l : List Item) → first_of (spans at before l) ≡ None → End ≡ analysis_of p at before l
       go [] g = refl
       go (x ∷ xs) g = cc
 

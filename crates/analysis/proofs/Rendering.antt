@@ -1,33 +1,31 @@
 -- Writing cells into a lent buffer, one after the other: the decisions as bytes, the bytes still to be written at an offset, and
 -- that their length is the same under all decisions.
+use Rattle.std.specs.Prelude.{Ok, Err, Some, None, Result, Option}
 use mathlib.Core.Path.{◌≡◌, refl, ap, ap₂, sym, ◌∙◌}
 use mathlib.Core.Bool.{true, false}
 use mathlib.Core.List.{List, [], ◌∷◌, ◌++◌, map, append_assoc, append-nil}
-use Prim.Native.Nat.{ℕ, ◌+◌, ◌*◌, ◌<◌, ◌≤◌}
+use Prim.Native.Nat.{ℕ, ◌+◌, ◌*◌, ◌≤◌}
 use native.Mathlib.Nat.{add-zero}
 use native.Mathlib.Omega.{arith}
-use lib.ListN.{drop, drop_of_length-le, get_or, length}
-use lib.Seq.{drop-cons, drop-drop}
+use lib.ListN.{drop, length}
+use lib.Seq.{drop-drop}
 use Rattle.base.specs.Output.{PutAt}
 use Rattle.base.specs.Refusals.{text_limit}
 use Rattle.base.specs.Sums.{capped}
 use Rattle.base.proofs.Sums.{capped-held}
 use Rattle.utf8.specs.Rfc3629.{chars, encode, encode_all, is_scalar}
 use Rattle.utf8_encoding.specs.Write.{after_write_char, write_char}
-use Rattle.utf8_encoding.specs.declared.WriteChar.{WriteChar}
-use Rattle.utf8_encoding.specs.declared.WriteChar.TheVariants.{NotScalar, TooShort, Written}
+use Rattle.utf8_encoding.specs.declared.WriteCharError.{WriteCharError}
 use Rattle.utf8_encoding.proofs.Answers.{after_write_char_sets, written}
 use Rattle.utf8.proofs.Places.{Step, Stop}
 use Rattle.utf8.proofs.Texts.{encode_all_append, valid_up_to_le}
 use Rattle.emoji.specs.Presentation.{as_selector, is_selector}
-use Rattle.emoji.specs.declared.presentation.FromSelector.{FromSelector}
-use Rattle.emoji.specs.declared.presentation.FromSelector.TheVariants.{NoSelector, Selector}
 use Rattle.emoji.specs.declared.presentation.Presentation.{Presentation}
 use Rattle.emoji.specs.declared.presentation.Presentation.TheVariants.{Emoji, Text}
 use Rattle.policy.specs.declared.Policy.{Policy}
 use Rattle.scanner.specs.Spans.{size, width}
 use Rattle.scanner.proofs.Bytes.{size-chars, size-width}
-use Rattle.analysis.specs.Analysis.{chosen, decide, following, later_decisions, remaining, render, renew}
+use Rattle.analysis.specs.Analysis.{chosen, following, later_decisions, remaining, render, renew}
 use Rattle.analysis.specs.CellView.{format_cells}
 use Rattle.analysis.specs.Cells.{Cell, cells, leading, split}
 use Rattle.analysis.specs.Helpers.{cell_bytes, decisions_used}
@@ -41,22 +39,19 @@ use Rattle.analysis.proofs.Replacement.{selector_free_renew, render_cons, renew_
 -- ---- one character
 
 -- If there is room for a scalar value, its bytes are written.
-module _ (v : ℕ) (o : List ℕ) (at : ℕ) (s : is_scalar v ≡ true) (h : at + length (encode v) ≤ length o) (a : WriteChar)
+module _ (v : ℕ) (o : List ℕ) (at : ℕ) (s : is_scalar v ≡ true) (h : at + length (encode v) ≤ length o) (a : Result ℕ WriteCharError)
     (e : a ≡ write_char v o at) where
-  answer_is : a ≡ Written (length (encode v))
+  answer_is : a ≡ Ok (length (encode v))
   answer_is = e ∙ sym (written v o at (length (encode v)) refl s h).0.same
 
-  pub width_is : (w : ℕ) → a ≡ Written w → w ≡ length (encode v)
-  width_is w f = let g : Written w ≡ Written (length (encode v)) = sym f ∙ answer_is in cc g
+  pub width_is : (w : ℕ) → a ≡ Ok w → w ≡ length (encode v)
+  width_is w f = let g : Ok w ≡ Ok (length (encode v)) = sym f ∙ answer_is in cc g
 
-  pub char_put : (w : ℕ) (after : List ℕ) → a ≡ Written w → after ≡ after_write_char v o at → PutAt o at (encode v) after (at + w)
+  pub char_put : (w : ℕ) (after : List ℕ) → a ≡ Ok w → after ≡ after_write_char v o at → PutAt o at (encode v) after (at + w)
   char_put w after f g = record { ends = ap (λ (n : ℕ). at + n) (width_is w f); bytes = g ∙ after_write_char_sets v o at s h }
 
-  pub not_short : (w : ℕ) → a ≡ TooShort w → ⊥
-  not_short w f = let g : TooShort w ≡ Written (length (encode v)) = sym f ∙ answer_is in let z : ◌≡◌ {A = ℕ} 0 1 = cc g in omega arith
-
-  pub not_refused : a ≡ NotScalar → ⊥
-  not_refused f = let g : NotScalar ≡ Written (length (encode v)) = sym f ∙ answer_is in let z : ◌≡◌ {A = ℕ} 0 1 = cc g in omega arith
+  pub not_error : (r : WriteCharError) → a ≡ Err r → ⊥
+  not_error r f = let g : Err r ≡ Ok (length (encode v)) = sym f ∙ answer_is in let z : ◌≡◌ {A = ℕ} 0 1 = cc g in omega arith
 
 -- ---- one selector
 
@@ -65,23 +60,18 @@ unfolding is_scalar as_selector
 selector_scalar Text = refl
 selector_scalar Emoji = refl
 
-pub bytes_selector : (s : FromSelector) (q : Presentation) (c : ℕ) → s ≡ Selector q → c ≡ as_selector q → encode c
+pub bytes_selector : (s : Option Presentation) (q : Presentation) (c : ℕ) → s ≡ Some q → c ≡ as_selector q → encode c
     ≡ encode_all (map as_selector (run_with s 1))
 unfolding run_with encode_all
 bytes_selector s q c e f =
-    ap encode f ∙ sym (append-nil (encode (as_selector q))) ∙ ap (λ (x : FromSelector). encode_all (map as_selector (run_with x 1))) (sym e)
+    ap encode f ∙ sym (append-nil (encode (as_selector q)))
+    ∙ ap (λ (x : Option Presentation). encode_all (map as_selector (run_with x 1))) (sym e)
 
-pub bytes_none : (s : FromSelector) → s ≡ NoSelector → [] ≡ encode_all (map as_selector (run_with s 1))
+pub bytes_none : (s : Option Presentation) → s ≡ None → [] ≡ encode_all (map as_selector (run_with s 1))
 unfolding run_with encode_all
-bytes_none s e = ap (λ (x : FromSelector). encode_all (map as_selector (run_with x 1))) (sym e)
+bytes_none s e = ap (λ (x : Option Presentation). encode_all (map as_selector (run_with x 1))) (sym e)
 
 -- ---- the decisions from an index on
-
-pub decide_default : (d : Presentation) (ds : List ℕ) (i : ℕ) → length ds ≤ i → d ≡ decide d (map meaning (drop i ds))
-decide_default d ds i h = ap (λ (l : List ℕ). decide d (map meaning l)) (sym (drop_of_length-le ds h))
-
-pub decide_at : (d : Presentation) (ds : List ℕ) (i : ℕ) → i < length ds → meaning (get_or ds i 0) ≡ decide d (map meaning (drop i ds))
-decide_at d ds i h = ap (λ (l : List ℕ). decide d (map meaning l)) (sym (drop-cons ds i 0 h))
 
 later_drop : (ds : List ℕ) → later_decisions (map meaning ds) ≡ map meaning (drop 1 ds)
 later_drop [] = refl

@@ -1,13 +1,12 @@
 -- Laws of the six rules: the rules count nothing in their own result, a rule that counts nothing keeps the selectors, and the
 -- numbers of selectors before and after differ as counted.
+use Rattle.std.specs.Prelude.{Some, None, Option}
 use mathlib.Core.Path.{◌≡◌, refl, ap}
 use mathlib.Core.Bool.{Bool, true, false}
 use mathlib.Core.List.{List, [], ◌∷◌}
 use Prim.Native.Nat.{ℕ, ◌+◌, ◌≤◌}
 use native.Mathlib.Omega.{arith}
 use lib.ListN.{length}
-use Rattle.emoji.specs.declared.presentation.FromSelector.{FromSelector}
-use Rattle.emoji.specs.declared.presentation.FromSelector.TheVariants.{NoSelector, Selector}
 use Rattle.emoji.specs.declared.presentation.Presentation.{Presentation}
 use Rattle.emoji.specs.declared.presentation.Presentation.TheVariants.{Emoji, Text}
 use Rattle.policy.specs.declared.Policy.{Policy}
@@ -227,7 +226,7 @@ balances_6 r = record { selectors = on r; decided = of r }
 pub balances : (p : Policy) (c : ℕ) (k : Class) → Balances (outcome p c k)
 balances = by_rules Balances balances_1 balances_23 balances_4 balances_5 balances_6
 
-pub selector_small : (f : FromSelector) → selector_number f ≤ 2
-selector_small NoSelector = omega arith
-selector_small (Selector Text) = omega arith
-selector_small (Selector Emoji) = omega arith
+pub selector_small : (f : Option Presentation) → selector_number f ≤ 2
+selector_small None = omega arith
+selector_small (Some Text) = omega arith
+selector_small (Some Emoji) = omega arith

@@ -1,4 +1,5 @@
 -- Which of the six rules holds for a base: `by_rules` derives a law of `outcome` from a law of each rule.
+use Rattle.std.specs.Prelude.{Some}
 use mathlib.Core.Path.{◌≡◌, refl, ap, sym, ◌∙◌, subst}
 use mathlib.Core.Logic.{◌≢◌}
 use mathlib.Core.Bool.{Bool, true, false, cond}
@@ -6,7 +7,6 @@ use mathlib.Core.List.{List}
 use Prim.Native.Nat.{ℕ}
 use Rattle.emoji.specs.Unicode.{has_variation_sequence, is_emoji_default, is_emoji_modifier_base, variation_sequence_index}
 use Rattle.emoji.specs.UnicodeData.{variation_entries}
-use Rattle.emoji.specs.declared.VariationSequenceIndex.TheVariants.{At}
 use Rattle.emoji.specs.declared.presentation.Presentation.{Presentation}
 use Rattle.emoji.proofs.Ascent.{is_at, member_index}
 use Rattle.policy.specs.Policy.{singleton_rule}
@@ -27,7 +27,7 @@ use Rattle.analysis.specs.Rules.{Outcome, by_keycap, by_modifier, by_tags, outco
 
 -- ---- which rule holds
 
-pub has_entry : (c i : ℕ) → variation_sequence_index c ≡ At i → has_variation_sequence c ≡ true
+pub has_entry : (c i : ℕ) → variation_sequence_index c ≡ Some i → has_variation_sequence c ≡ true
 unfolding has_variation_sequence variation_sequence_index is_at
 has_entry c i e = member_index c variation_entries ∙ ap is_at e
 

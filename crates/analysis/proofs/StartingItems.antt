@@ -1,9 +1,10 @@
 -- The finding that starts at an offset of a text: if an item of the text starts there, it is the first item of a scan from the
 -- offset on, if that is a finding. A cursor that goes from item to item decides whether an item starts there.
+use Rattle.scanner.specs.declared.ScanItem.{ScanItem}
+use Rattle.std.specs.Prelude.{Some, None, Option}
 use mathlib.Core.Path.{◌≡◌, refl, ap, sym, ◌∙◌, subst}
 use mathlib.Core.Bool.{Bool, true, false, cond, ◌||◌}
 use mathlib.Core.List.{List, [], ◌∷◌}
-use mathlib.Core.Option.{Option, none, some}
 use Prim.Native.Nat.{ℕ, ◌+◌, ◌<◌, ◌≤◌}
 use native.Mathlib.Omega.{arith}
 use lib.Dec.{eqb}
@@ -15,8 +16,6 @@ use Rattle.scanner.specs.Items.{Item, items}
 use Rattle.positions.specs.Positions.{no_count}
 use Rattle.positions.specs.declared.TextCount.{TextCount}
 use Rattle.scanner.specs.Spans.{Found, count_after, first_of, found, scan, scan_at, scan_from, size, spans, width}
-use Rattle.scanner.specs.declared.ScanStep.{ScanStep}
-use Rattle.scanner.specs.declared.ScanStep.TheVariants as Step
 use Rattle.scanner.proofs.ItemAt.{ItemAt, item_at_lem}
 use Rattle.analysis.specs.Analysis.{is_finding}
 use Rattle.analysis.specs.Findings.{finding_at}
@@ -26,7 +25,7 @@ use Rattle.analysis.specs.ItemAt.{finding_starting}
 -- ---- the items after an offset
 
 -- No finding after an offset starts at this offset.
-pub no_finding-past : (p : Policy) (o n : ℕ) (xs : List Item) → o < n → finding_at o (found (is_finding p) width n xs) ≡ none
+pub no_finding-past : (p : Policy) (o n : ℕ) (xs : List Item) → o < n → finding_at o (found (is_finding p) width n xs) ≡ None
 unfolding finding_at found
 no_finding-past p o n [] h = refl
 no_finding-past p o n (x ∷ xs) h = go (is_finding p x) (no_finding-past p o (n + size width x.chars) xs (omega arith))
@@ -34,8 +33,8 @@ no_finding-past p o n (x ∷ xs) h = go (is_finding p x) (no_finding-past p o (n
     F : List Found
     F = found (is_finding p) width (n + size width x.chars) xs
 
-    go : (b : Bool) → finding_at o F ≡ none → finding_at o (cond b (record { start = n; item = x } ∷ F) F) ≡ none
-    go true i = ap (λ (b : Bool). cond b (some x) (finding_at o F)) (ne_eqb n o (λ e. omega arith)) ∙ i
+    go : (b : Bool) → finding_at o F ≡ None → finding_at o (cond b (record { start = n; item = x } ∷ F) F) ≡ None
+    go true i = ap (λ (b : Bool). cond b (Some x) (finding_at o F)) (ne_eqb n o (λ e. omega arith)) ∙ i
     go false i = i
 
 -- No item after an offset starts at this offset.
@@ -62,9 +61,9 @@ or_none false = refl
 
 module _ (text : List ℕ) (o at : ℕ) (before : TextCount) where
   -- Whether one of the items from the offset `at` on starts at the offset o, by the cursor's answer at `at`.
-  abbrev pub Starting : ScanStep → Type 0
-  Starting Step.End = starts_at o (scan_from text at before) ≡ false
-  Starting (Step.Item x) =
+  abbrev pub Starting : Option ScanItem → Type 0
+  Starting None = starts_at o (scan_from text at before) ≡ false
+  Starting (Some x) =
       (at < x.end) × (x.end ≤ length text) × (at < o → starts_at o (scan_from text at before) ≡ starts_at o (scan_from text x.end before))
       × (o ≤ at → starts_at o (scan_from text at before) ≡ eqb at o)
 
@@ -85,7 +84,7 @@ module _ (text : List ℕ) (o at : ℕ) (before : TextCount) where
             ∙ or_none (eqb at o),
       )
 
-  pub cursor_starting : {s : ScanStep} → s ≡ scan_at text at before → Starting s
+  pub cursor_starting : {s : Option ScanItem} → s ≡ scan_at text at before → Starting s
   unfolding scan_at scan_from
   cursor_starting e = subst Starting (sym e) (starting_of (items (chars (drop at text))) refl)
 
@@ -94,13 +93,13 @@ module _ (text : List ℕ) (o at : ℕ) (before : TextCount) where
 module _ (p : Policy) where
   -- The first item, if it is a finding.
   abbrev pub head_finding : List Item → Option Item
-  head_finding [] = none
-  head_finding (x ∷ xs) = cond (is_finding p x) (some x) none
+  head_finding [] = None
+  head_finding (x ∷ xs) = cond (is_finding p x) (Some x) None
 
   module _ (text : List ℕ) (o : ℕ) where
     starting-from : (at : ℕ) (before : TextCount) (xs : List Item) → items (chars (drop at text)) ≡ xs
         → finding_at o (found (is_finding p) width at xs)
-        ≡ cond (starts_at o (spans at before xs)) (head_finding (items (chars (drop o text)))) none
+        ≡ cond (starts_at o (spans at before xs)) (head_finding (items (chars (drop o text)))) None
     unfolding finding_at found starts_at spans
     starting-from at before [] e = refl
     starting-from at before (x ∷ xs) e = go (eqb at o) (is_finding p x) refl refl (starting-from end (count_after before x) xs h.after)
@@ -120,22 +119,22 @@ module _ (p : Policy) where
         R : Option Item
         R = head_finding (items (chars (drop o text)))
 
-        here : at ≡ o → R ≡ cond (is_finding p x) (some x) none
+        here : at ≡ o → R ≡ cond (is_finding p x) (Some x) None
         here j = ap (λ (n : ℕ). head_finding (items (chars (drop n text)))) (sym j) ∙ ap head_finding e
 
-        found-by : (b f : Bool) → b ≡ f → cond b (some x) none ≡ cond f (some x) none
-        found-by b f j = ap (λ (b : Bool). cond b (some x) none) j
+        found-by : (b f : Bool) → b ≡ f → cond b (Some x) None ≡ cond f (Some x) None
+        found-by b f j = ap (λ (b : Bool). cond b (Some x) None) j
 
-        go : (q f : Bool) → eqb at o ≡ q → is_finding p x ≡ f → finding_at o F ≡ cond S R none
-            → finding_at o (cond f (record { start = at; item = x } ∷ F) F) ≡ cond (q || S) R none
+        go : (q f : Bool) → eqb at o ≡ q → is_finding p x ≡ f → finding_at o F ≡ cond S R None
+            → finding_at o (cond f (record { start = at; item = x } ∷ F) F) ≡ cond (q || S) R None
         go true true j k ih =
-            ap (λ (b : Bool). cond b (some x) (finding_at o F)) j ∙ sym (here (eqb-true at o j) ∙ found-by (is_finding p x) true k)
+            ap (λ (b : Bool). cond b (Some x) (finding_at o F)) j ∙ sym (here (eqb-true at o j) ∙ found-by (is_finding p x) true k)
         go true false j k ih =
             let l = eqb-true at o j in
             no_finding-past p o end xs (omega (arith, h.some)) ∙ sym (here l ∙ found-by (is_finding p x) false k)
-        go false true j k ih = ap (λ (b : Bool). cond b (some x) (finding_at o F)) j ∙ ih
+        go false true j k ih = ap (λ (b : Bool). cond b (Some x) (finding_at o F)) j ∙ ih
         go false false j k ih = ih
 
-    pub finding-starting : finding_starting p text o ≡ cond (starts_at o (scan text)) (head_finding (items (chars (drop o text)))) none
+    pub finding-starting : finding_starting p text o ≡ cond (starts_at o (scan text)) (head_finding (items (chars (drop o text)))) None
     unfolding scan scan_from
     finding-starting = starting-from 0 no_count (items (chars (drop 0 text))) refl

@@ -1,9 +1,7 @@
 -- The cells of a list of characters. A cell is a character that is no selector, with the selectors after it (S of document 01,
 -- "Item").
-use Rattle.std.specs.Prelude.{cond, List, [], ◌∷◌, ◌++◌, map, ℕ}
+use Rattle.std.specs.Prelude.{cond, List, [], ◌∷◌, ◌++◌, map, ℕ, Some, None, Option}
 use Rattle.emoji.specs.Presentation.{as_selector, from_selector, is_selector}
-use Rattle.emoji.specs.declared.presentation.FromSelector.{FromSelector}
-use Rattle.emoji.specs.declared.presentation.FromSelector.TheVariants.{NoSelector, Selector}
 use Rattle.emoji.specs.declared.presentation.Presentation.{Presentation}
 use Rattle.scanner.specs.Spans.{size}
 
@@ -13,9 +11,9 @@ pub record Cell : Type 0 where
   pub after : List Presentation
 
 -- One more character in front: a selector joins the leading selectors; any other character becomes a cell with them.
-unfoldable pub add_char : ℕ → FromSelector → List Presentation × List Cell → List Presentation × List Cell
-add_char c (Selector q) r = (q ∷ r.0, r.1)
-add_char c NoSelector r = ([], record { char = c; after = r.0 } ∷ r.1)
+unfoldable pub add_char : ℕ → Option Presentation → List Presentation × List Cell → List Presentation × List Cell
+add_char c (Some q) r = (q ∷ r.0, r.1)
+add_char c None r = ([], record { char = c; after = r.0 } ∷ r.1)
 
 -- The leading selectors and the cells.
 unfoldable pub split : List ℕ → List Presentation × List Cell

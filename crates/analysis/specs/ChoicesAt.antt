@@ -2,7 +2,8 @@
 -- (document 01, "Counts and finding": "its choices are, per decision, the default and the two replacements"). A choice is a unit
 -- whose base takes a decision. Its two replacements are this unit under either decision.
 -- That the walk returns the choices of the item is specs/Theorems.antt, ChoicesAreWalked.
-use Rattle.std.specs.Prelude.{◌≡◌, List, [], ◌∷◌, ℕ, ◌+◌, ◌-◌, ◌*◌, drop, length, take}
+use Rattle.base.specs.declared.Refusal.{Refusal}
+use Rattle.std.specs.Prelude.{◌≡◌, List, [], ◌∷◌, ℕ, ◌+◌, ◌-◌, ◌*◌, drop, length, take, Some, None, Result, Option}
 use Rattle.base.specs.Refusals.{After}
 use Rattle.utf8.specs.Rfc3629.{chars, encode_all}
 use Rattle.emoji.specs.declared.presentation.Presentation.{Presentation}
@@ -13,10 +14,7 @@ use Rattle.analysis.specs.Analysis.{Choice, outcome_at, render, up_to_link}
 use Rattle.analysis.specs.Cells.{Cell, cells, leading, unsplit}
 use Rattle.analysis.specs.Decisions.{within_limit, write_out}
 use Rattle.analysis.specs.Rules.{Slot, bare, decided, fixed}
-use Rattle.analysis.specs.declared.types.ChoiceStep.{ChoiceStep}
-use Rattle.analysis.specs.declared.types.ChoiceStep.TheVariants as Step
 use Rattle.analysis.specs.declared.types.ReplacementChoice.{ReplacementChoice}
-use Rattle.analysis.specs.declared.types.MendAnswer.{MendAnswer}
 
 -- The length of cells in bytes.
 abbrev pub cells_length : List Cell → ℕ
@@ -42,9 +40,9 @@ add_choice_at (fixed q) c l = l
 add_choice_at (decided d) c l = c d ∷ l
 
 -- The first choice of a list, or the end.
-unfoldable pub first_choice : List ReplacementChoice → ChoiceStep
-first_choice [] = Step.End
-first_choice (c ∷ cs) = Step.Choice c
+unfoldable pub first_choice : List ReplacementChoice → Option ReplacementChoice
+first_choice [] = None
+first_choice (c ∷ cs) = Some c
 
 module _ (p : Policy) where
   -- The choices of cells; the first cell begins at the offset. Each choice has the bytes of its unit, its default, and the end of
@@ -58,11 +56,11 @@ module _ (p : Policy) where
       (choices_from next xs)
 
   -- The first choice of a slice from an offset on, or the end.
-  unfoldable pub choice_at : List ℕ → ℕ → ChoiceStep
+  unfoldable pub choice_at : List ℕ → ℕ → Option ReplacementChoice
   choice_at raw at = first_choice (choices_from (cells_start raw at) (cells_from raw at))
 
   -- The call that writes the unit at an offset under a decision: refusals 1 and 8, in this order.
-  unfoldable pub replace_unit : List ℕ → ℕ → Presentation → List ℕ → After MendAnswer ℕ
+  unfoldable pub replace_unit : List ℕ → ℕ → Presentation → List ℕ → After (Result ℕ Refusal) ℕ
   replace_unit raw at q out = within_limit raw out (write_out (encode_all (render p (front_unit (cells_from raw at)) (q ∷ []))) out)
 
   -- ---- the walk
@@ -77,6 +75,6 @@ module _ (p : Policy) where
 
   -- A walk over a slice from an offset on, from each choice to the next, finds these choices and then the end.
   pub data Meets (raw : List ℕ) : ℕ → List Choice → Type 0 where
-    no_more : {at : ℕ} → choice_at raw at ≡ Step.End → Meets raw at []
-    one_more : {at : ℕ} {k : Choice} {ks : List Choice} (c : ReplacementChoice) → choice_at raw at ≡ Step.Choice c → IsChoice raw c k
+    no_more : {at : ℕ} → choice_at raw at ≡ None → Meets raw at []
+    one_more : {at : ℕ} {k : Choice} {ks : List Choice} (c : ReplacementChoice) → choice_at raw at ≡ Some c → IsChoice raw c k
         → Meets raw c.next ks → Meets raw at (k ∷ ks)

@@ -1,7 +1,6 @@
 -- The findings of a text under a policy, in text order, each with its start in bytes; the finding that starts at an offset; and the
 -- totals of items (document 01, "Counts and finding", "Replacement and text").
-use Rattle.std.specs.Prelude.{cond, List, [], ◌∷◌, ℕ, eqb, drop}
-use Rattle.std.proofs.Math.Option.{Option, none, some}
+use Rattle.std.specs.Prelude.{cond, List, [], ◌∷◌, ℕ, eqb, drop, Some, None, Option}
 use Rattle.utf8.specs.Rfc3629.{chars}
 use Rattle.policy.specs.declared.Policy.{Policy}
 use Rattle.scanner.specs.Items.{Item, items}
@@ -16,8 +15,8 @@ findings_from p text at = found (is_finding p) width at (items (chars (drop at t
 
 -- "Mending takes a finding's first offset": the finding that starts at this offset, if there is one.
 unfoldable pub finding_at : ℕ → List Found → Option Item
-finding_at offset [] = none
-finding_at offset (f ∷ fs) = cond (eqb f.start offset) (some f.item) (finding_at offset fs)
+finding_at offset [] = None
+finding_at offset (f ∷ fs) = cond (eqb f.start offset) (Some f.item) (finding_at offset fs)
 
 -- "A total is the sum of one count over the findings": all eight totals, summed over items.
 unfoldable pub totals : Policy → List Item → NonCanonicality

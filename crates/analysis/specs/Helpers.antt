@@ -1,5 +1,6 @@
 -- Contracts of helper functions: functions of the crate replacing that write or measure one cell, and that look for an item.
-use Rattle.std.specs.Prelude.{Bool, false, cond, ◌||◌, List, [], ◌∷◌, ◌++◌, map, ℕ, eqb}
+use Rattle.base.specs.declared.Refusal.{Refusal}
+use Rattle.std.specs.Prelude.{Bool, false, cond, ◌||◌, List, [], ◌∷◌, ◌++◌, map, ℕ, eqb, Result}
 use Rattle.base.specs.Refusals.{After}
 use Rattle.utf8.specs.Rfc3629.{chars, encode, encode_all}
 use Rattle.emoji.specs.Presentation.{as_selector}
@@ -15,7 +16,6 @@ use Rattle.analysis.specs.ItemAt.{analysis_at}
 use Rattle.analysis.specs.Rules.{Slot, bare, decided, fixed}
 use Rattle.analysis.specs.declared.ItemAnalysis.{ItemAnalysis}
 use Rattle.analysis.specs.declared.ItemAnalysis.TheVariants.{End}
-use Rattle.analysis.specs.declared.types.MendAnswer.{MendAnswer}
 
 -- The number of decisions that a slot takes.
 abbrev pub decisions_used : Slot → ℕ
@@ -45,5 +45,5 @@ module _ (p : Policy) where
   starting_analysis text offset = cond (starts_at offset (scan text)) (analysis_at p text offset no_count) End
 
   -- The call that writes the cells of a slice under decisions: refusals 1 and 8, in this order.
-  abbrev pub write_cells : List ℕ → List ℕ → List ℕ → After MendAnswer ℕ
+  abbrev pub write_cells : List ℕ → List ℕ → List ℕ → After (Result ℕ Refusal) ℕ
   write_cells raw decisions out = within_limit raw out (write_out (encode_all (render p (cells (chars raw)) (map meaning decisions))) out)

@@ -1,8 +1,7 @@
 -- The item of a text at a byte offset under a policy: its analysis, and the calls that write the replacement of the finding that
 -- starts at the offset (document 01, "Counts and finding": `analyze_scan_item`; "Replacement and text":
 -- `canonical_replacement_with_decisions`).
-use Rattle.std.specs.Prelude.{cond, List, [], ◌∷◌, map, ℕ, ◌+◌, drop}
-use Rattle.std.proofs.Math.Option.{Option, none, some}
+use Rattle.std.specs.Prelude.{cond, List, [], ◌∷◌, map, ℕ, ◌+◌, drop, Err, Some, None, Result, Option}
 use Rattle.base.specs.Refusals.{After, unwritten, or_else}
 use Rattle.base.specs.declared.Refusal.{Refusal}
 use Rattle.base.specs.declared.Refusal.TheVariants.{NoFinding}
@@ -19,8 +18,6 @@ use Rattle.analysis.specs.Findings.{finding_at, findings_from}
 use Rattle.analysis.specs.declared.ItemAnalysis.{ItemAnalysis}
 use Rattle.analysis.specs.declared.ItemAnalysis.TheVariants.{Canonical, End, NonCanonical}
 use Rattle.analysis.specs.declared.types.Finding.{Finding}
-use Rattle.analysis.specs.declared.types.MendAnswer.{MendAnswer}
-use Rattle.analysis.specs.declared.types.MendAnswer.TheVariants.{Refused}
 
 module _ (p : Policy) where
   -- An item that starts at a byte offset, as a finding: its bytes, its counts, and its characters and UTF-16 units, counted on from those
@@ -57,24 +54,24 @@ module _ (p : Policy) where
 
   -- The bytes of a finding's replacement under decisions.
   unfoldable pub replacement_bytes : Option Item → List Presentation → List ℕ
-  replacement_bytes none ds = []
-  replacement_bytes (some x) ds = encode_all (replacement p x ds)
+  replacement_bytes None ds = []
+  replacement_bytes (Some x) ds = encode_all (replacement p x ds)
 
   -- The call that writes the replacement of the finding that starts at an offset, under decisions: refusals 1, 3, 4, 5, 6 and 8, in
   -- this order.
-  unfoldable pub replace_at : List ℕ → ℕ → List ℕ → List ℕ → After MendAnswer ℕ
+  unfoldable pub replace_at : List ℕ → ℕ → List ℕ → List ℕ → After (Result ℕ Refusal) ℕ
   replace_at text offset decisions out =
       let x = finding_starting text offset in
-      or_else (text_refusal text) (λ (r : Refusal). unwritten (Refused r) out)
+      or_else (text_refusal text) (λ (r : Refusal). unwritten (Err r) out)
       (judge p x decisions (replacement_bytes x (map meaning decisions)) out)
 
   -- The call that writes the replacement of a finding with every decision at its default; refusal 4 if there is no finding.
-  unfoldable pub write_found : Option Item → List ℕ → After MendAnswer ℕ
-  write_found none out = unwritten (Refused NoFinding) out
-  write_found (some x) out = write_out (encode_all (replacement p x [])) out
+  unfoldable pub write_found : Option Item → List ℕ → After (Result ℕ Refusal) ℕ
+  write_found None out = unwritten (Err NoFinding) out
+  write_found (Some x) out = write_out (encode_all (replacement p x [])) out
 
   -- The call that writes the replacement of the finding that starts at an offset, with every decision at its default: refusals 1,
   -- 3, 4 and 8, in this order.
-  unfoldable pub replace_by_default : List ℕ → ℕ → List ℕ → After MendAnswer ℕ
+  unfoldable pub replace_by_default : List ℕ → ℕ → List ℕ → After (Result ℕ Refusal) ℕ
   replace_by_default text offset out =
-      or_else (text_refusal text) (λ (r : Refusal). unwritten (Refused r) out) (write_found (finding_starting text offset) out)
+      or_else (text_refusal text) (λ (r : Refusal). unwritten (Err r) out) (write_found (finding_starting text offset) out)

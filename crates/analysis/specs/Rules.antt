@@ -1,9 +1,7 @@
 -- The six rules for a single base, in document 01's order ("Counts and finding"): `outcome` is the result of the first rule that
 -- fits.
-use Rattle.std.specs.Prelude.{Bool, true, false, cond, not, ◌&&◌, List, [], ◌∷◌, ℕ, ◌-◌, length, replicate}
+use Rattle.std.specs.Prelude.{Bool, true, false, cond, not, ◌&&◌, List, [], ◌∷◌, ℕ, ◌-◌, length, replicate, Some, None, Option}
 use Rattle.emoji.specs.Unicode.{has_variation_sequence, is_emoji_default, is_emoji_modifier_base}
-use Rattle.emoji.specs.declared.presentation.FromSelector.{FromSelector}
-use Rattle.emoji.specs.declared.presentation.FromSelector.TheVariants.{NoSelector, Selector}
 use Rattle.emoji.specs.declared.presentation.Presentation.{Presentation}
 use Rattle.emoji.specs.declared.presentation.Presentation.TheVariants.{Emoji, Text}
 use Rattle.policy.specs.Policy.{singleton_rule}
@@ -123,18 +121,18 @@ outcome p c k s =
 -- ---- the selectors by numbers
 
 -- The first selector, if there is one.
-unfoldable pub first_asked : List Presentation → FromSelector
-first_asked [] = NoSelector
-first_asked (q ∷ s) = Selector q
+unfoldable pub first_asked : List Presentation → Option Presentation
+first_asked [] = None
+first_asked (q ∷ s) = Some q
 
 -- Selectors with this first one and this number; a number of 0 with a first selector counts as 1. The rules depend on nothing more:
 -- specs/Theorems.antt, RulesByNumbers.
-unfoldable pub run_with : FromSelector → ℕ → List Presentation
-run_with NoSelector n = []
-run_with (Selector q) n = q ∷ replicate (n - 1) q
+unfoldable pub run_with : Option Presentation → ℕ → List Presentation
+run_with None n = []
+run_with (Some q) n = q ∷ replicate (n - 1) q
 
 -- The number of a selector: 0 for none, 1 for Text, 2 for Emoji.
-abbrev pub selector_number : FromSelector → ℕ
-selector_number NoSelector = 0
-selector_number (Selector Text) = 1
-selector_number (Selector Emoji) = 2
+abbrev pub selector_number : Option Presentation → ℕ
+selector_number None = 0
+selector_number (Some Text) = 1
+selector_number (Some Emoji) = 2

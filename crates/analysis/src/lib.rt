@@ -10,7 +10,7 @@ use types::Finding;
 
 // The analysis of an item under a policy. The item is canonical, with its end in bytes, characters and UTF-16 units; or it is a finding;
 // or the text has ended.
-#[derive(Clone, Copy)]
+#[derive(Clone, Copy, Debug, PartialEq, Eq)]
 pub enum ItemAnalysis {
     End,
     Canonical {

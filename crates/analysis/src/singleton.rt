@@ -3,7 +3,7 @@
 // selectors, the first selector and the number of selectors.
 // `analyze_singleton_base_selectors`, `analyze_by_index` and `analyze_by_policy_bytes` equal `outcome` of specs/Rules.antt; each
 // smaller function equals one of its rules.
-ghost use Rattle.std.specs.Prelude.{◌≡◌, cond, true, ◌-◌, drop};
+ghost use Rattle.std.specs.Prelude.{◌≡◌, cond, true, drop};
 ghost use Rattle.utf8.specs.Rfc3629.{chars};
 ghost use Rattle.emoji.specs.Unicode.{has_variation_sequence, is_emoji_modifier_base, variation_sequence_index};
 ghost use Rattle.policy.specs.Policy.{singleton_rule};
@@ -26,13 +26,12 @@ ghost use Rattle.analysis.specs.Rules.{
 };
 
 use crate::types::NonCanonicality;
-use emoji::VariationSequenceIndex;
-use emoji::presentation::{FromSelector, Presentation};
+use emoji::presentation::Presentation;
 use policy::{Policy, SingletonRule};
-use scanner::char_class::{Class, Peeked, peek};
+use scanner::char_class::{Class, peek};
 
 // What follows a base in the replacement: no selector, this selector, or the selector that a decision names, with its default.
-#[derive(Clone, Copy)]
+#[derive(Clone, Copy, Debug, PartialEq, Eq)]
 pub enum Slot {
     Bare,
     Fixed(Presentation),
@@ -40,26 +39,20 @@ pub enum Slot {
 }
 
 // The result of a rule for a base and its selectors.
-#[derive(Clone, Copy)]
+#[derive(Clone, Copy, Debug, PartialEq, Eq)]
 pub struct Outcome {
     pub counts: NonCanonicality,
     pub slot: Slot,
 }
 
-// The number of selectors after the first.
-fn rest_of(count: usize) -> usize
-    ensures { result ≡ count - 1 }
-{
-    if count == 0 { 0 } else { count - 1 }
-}
-
 // Rule 1: no variation entry.
-fn without_entry(first: FromSelector, count: usize) -> Outcome
+#[tactic(auto, using(crate::proofs::NumberRules::first_1), unfolding(crate::specs::Rules::rule1, crate::specs::Rules::run_with))]
+fn without_entry(first: Option<Presentation>, count: usize) -> Outcome
     ensures { result ≡ rule1 (run_with first count) }
 {
     let counts = match first {
-        FromSelector::NoSelector => NonCanonicality::empty(),
-        FromSelector::Selector(_) => NonCanonicality::unsanctioned(rest_of(count) + 1),
+        None => NonCanonicality::empty(),
+        Some(_) => NonCanonicality::unsanctioned(count.saturating_sub(1) + 1),
     };
     Outcome {
         counts,
@@ -68,53 +61,50 @@ fn without_entry(first: FromSelector, count: usize) -> Outcome
 }
 
 // Rules 2 and 3: the first modification is a modifier.
-fn before_modifier(first: FromSelector, count: usize, base: u32) -> Outcome
+#[tactic(auto, using(crate::proofs::NumberRules::none_23, crate::proofs::NumberRules::text_23, crate::proofs::NumberRules::emoji_23))]
+fn before_modifier(first: Option<Presentation>, count: usize, base: u32) -> Outcome
     ensures { result ≡ cond (text_first (run_with first count)) (rule2 (run_with first count))
         (rule3 (is_emoji_modifier_base base) (run_with first count)) }
 {
-    let mut counts = NonCanonicality::unsanctioned(rest_of(count));
+    let mut counts = NonCanonicality::unsanctioned(count.saturating_sub(1));
     match first {
-        FromSelector::NoSelector => Outcome {
+        None => Outcome {
             counts: NonCanonicality::empty(),
             slot: Slot::Bare,
         },
-        FromSelector::Selector(presentation) => match presentation {
-            Presentation::Text => Outcome {
-                counts,
-                slot: Slot::Fixed(Presentation::Text),
-            },
-            Presentation::Emoji => {
-                if emoji::is_emoji_modifier_base(base) {
-                    counts.modifier_defective_selectors = 1;
-                } else {
-                    counts.additional_defective_selectors = 1;
-                }
-                Outcome {
-                    counts,
-                    slot: Slot::Bare,
-                }
-            }
+        Some(Presentation::Text) => Outcome {
+            counts,
+            slot: Slot::Fixed(Presentation::Text),
         },
+        Some(Presentation::Emoji) => {
+            if emoji::is_emoji_modifier_base(base) {
+                counts.modifier_defective_selectors = 1;
+            } else {
+                counts.additional_defective_selectors = 1;
+            }
+            Outcome {
+                counts,
+                slot: Slot::Bare,
+            }
+        }
     }
 }
 
 // Rule 4: the first modification is tags, and the base is emoji-default.
-fn before_tags_bare(first: FromSelector, count: usize) -> Outcome
+#[tactic(auto, using(crate::proofs::NumberRules::none_4, crate::proofs::NumberRules::text_4, crate::proofs::NumberRules::emoji_4))]
+fn before_tags_bare(first: Option<Presentation>, count: usize) -> Outcome
     ensures { result ≡ rule4 (run_with first count) }
 {
-    let mut counts = NonCanonicality::empty();
+    let mut counts = NonCanonicality::unsanctioned(count.saturating_sub(1));
     match first {
-        FromSelector::NoSelector => {}
-        FromSelector::Selector(presentation) => {
-            counts = NonCanonicality::unsanctioned(rest_of(count));
-            match presentation {
-                Presentation::Text => {
-                    counts.tag_conflicting_selectors = 1;
-                }
-                Presentation::Emoji => {
-                    counts.tag_redundant_selectors = 1;
-                }
-            }
+        None => {
+            counts = NonCanonicality::empty();
+        }
+        Some(Presentation::Text) => {
+            counts.tag_conflicting_selectors = 1;
+        }
+        Some(Presentation::Emoji) => {
+            counts.tag_redundant_selectors = 1;
         }
     }
     Outcome {
@@ -124,24 +114,21 @@ fn before_tags_bare(first: FromSelector, count: usize) -> Outcome
 }
 
 // Rule 5: the first modification is tags, and the base is another one.
-fn before_tags_emoji(first: FromSelector, count: usize) -> Outcome
+#[tactic(auto, using(crate::proofs::NumberRules::none_5, crate::proofs::NumberRules::text_5, crate::proofs::NumberRules::emoji_5))]
+fn before_tags_emoji(first: Option<Presentation>, count: usize) -> Outcome
     ensures { result ≡ rule5 (run_with first count) }
 {
-    let mut counts = NonCanonicality::empty();
+    let mut counts = NonCanonicality::unsanctioned(count.saturating_sub(1));
     match first {
-        FromSelector::NoSelector => {
+        None => {
+            counts = NonCanonicality::empty();
             counts.tag_forced_presentations = 1;
         }
-        FromSelector::Selector(presentation) => {
-            counts = NonCanonicality::unsanctioned(rest_of(count));
-            match presentation {
-                Presentation::Text => {
-                    counts.tag_conflicting_selectors = 1;
-                    counts.tag_forced_presentations = 1;
-                }
-                Presentation::Emoji => {}
-            }
+        Some(Presentation::Text) => {
+            counts.tag_conflicting_selectors = 1;
+            counts.tag_forced_presentations = 1;
         }
+        Some(Presentation::Emoji) => {}
     }
     Outcome {
         counts,
@@ -150,56 +137,39 @@ fn before_tags_emoji(first: FromSelector, count: usize) -> Outcome
 }
 
 // Whether the presentation is the bare side of `TextToBare` or `EmojiToBare`.
+#[tactic(auto, unfolding(crate::specs::Rules::is_bare_side))]
 fn is_bare_side(rule: SingletonRule, presentation: Presentation) -> bool
     ensures { result ≡ is_bare_side rule presentation }
 {
-    match rule {
-        SingletonRule::TextToBare => match presentation {
-            Presentation::Text => true,
-            Presentation::Emoji => false,
-        },
-        SingletonRule::EmojiToBare => match presentation {
-            Presentation::Text => false,
-            Presentation::Emoji => true,
-        },
-        SingletonRule::BareToText => false,
-        SingletonRule::BareToEmoji => false,
-    }
+    matches!(
+        (rule, presentation),
+        (SingletonRule::TextToBare, Presentation::Text)
+            | (SingletonRule::EmojiToBare, Presentation::Emoji)
+    )
 }
 
 // The result for a base without a selector under a policy's rule: bare, or one decision.
+#[tactic(auto, unfolding(crate::specs::Rules::without_selector))]
 fn without_selector(rule: SingletonRule) -> Outcome
     ensures { result ≡ without_selector rule }
 {
     let mut counts = NonCanonicality::empty();
-    match rule {
-        SingletonRule::TextToBare => Outcome {
-            counts,
-            slot: Slot::Bare,
-        },
-        SingletonRule::EmojiToBare => Outcome {
-            counts,
-            slot: Slot::Bare,
-        },
+    let slot = match rule {
+        SingletonRule::TextToBare | SingletonRule::EmojiToBare => Slot::Bare,
         SingletonRule::BareToText => {
             counts.presentation_decisions = 1;
-            Outcome {
-                counts,
-                slot: Slot::Decided(Presentation::Text),
-            }
+            Slot::Decided(Presentation::Text)
         }
         SingletonRule::BareToEmoji => {
             counts.presentation_decisions = 1;
-            Outcome {
-                counts,
-                slot: Slot::Decided(Presentation::Emoji),
-            }
+            Slot::Decided(Presentation::Emoji)
         }
-    }
+    };
+    Outcome { counts, slot }
 }
 
 // Rules 4 and 5: the first modification is tags.
-fn before_tags(first: FromSelector, count: usize, is_emoji_default: bool) -> Outcome
+fn before_tags(first: Option<Presentation>, count: usize, is_emoji_default: bool) -> Outcome
     ensures { result ≡ cond is_emoji_default (rule4 (run_with first count)) (rule5 (run_with first count)) }
 {
     if is_emoji_default {
@@ -209,13 +179,14 @@ fn before_tags(first: FromSelector, count: usize, is_emoji_default: bool) -> Out
 }
 
 // Rule 6: the policy's rule for the base.
-fn by_policy(first: FromSelector, count: usize, rule: SingletonRule) -> Outcome
+#[tactic(auto, using(crate::proofs::NumberRules::first_6), unfolding(crate::specs::Rules::rule6, crate::specs::Rules::run_with))]
+fn by_policy(first: Option<Presentation>, count: usize, rule: SingletonRule) -> Outcome
     ensures { result ≡ rule6 rule (run_with first count) }
 {
     match first {
-        FromSelector::NoSelector => without_selector(rule),
-        FromSelector::Selector(presentation) => {
-            let mut counts = NonCanonicality::unsanctioned(rest_of(count));
+        None => without_selector(rule),
+        Some(presentation) => {
+            let mut counts = NonCanonicality::unsanctioned(count.saturating_sub(1));
             if is_bare_side(rule, presentation) {
                 counts.policy_redundant_selectors = 1;
                 return Outcome {
@@ -236,30 +207,25 @@ pub fn class_at(text: &[u8], at: usize) -> Class
     ensures { result ≡ class_in_front (chars (drop at text.now)) }
 {
     match peek(text, at) {
-        Peeked::Char {
-            value: _,
-            class,
-            end: _,
-        } => class,
-        Peeked::NoChar => Class::Other,
+        Some(seen) => seen.class,
+        None => Class::Other,
     }
 }
 
 // Whether the class is that of 20E3.
+#[tactic(auto, unfolding(crate::specs::Rules::by_keycap))]
 pub fn is_keycap(class: Class) -> bool
     ensures { result ≡ by_keycap class }
 {
-    match class {
-        Class::Keycap => true,
-        _ => false,
-    }
+    matches!(class, Class::Keycap)
 }
 
 // Rules 2 to 6, for a base with a variation entry. `rule` is the policy's rule for the base before a character of class `next`.
+#[tactic(auto, using(crate::proofs::Rules::outcome_entry), unfolding(crate::specs::Rules::by_keycap))]
 fn with_entry(
     base: u32,
     next: Class,
-    first: FromSelector,
+    first: Option<Presentation>,
     count: usize,
     rule: SingletonRule,
 ) -> Outcome
@@ -274,10 +240,11 @@ fn with_entry(
 }
 
 // "For a single base the first rule that fits holds."
+#[tactic(auto, using(crate::proofs::Rules::outcome_no_entry))]
 pub fn analyze_singleton_base_selectors(
     base: u32,
     next: Class,
-    first: FromSelector,
+    first: Option<Presentation>,
     count: usize,
     policy: Policy,
 ) -> Outcome
@@ -294,17 +261,17 @@ pub fn analyze_singleton_base_selectors(
 pub fn analyze_by_index(
     policy: &[u8],
     base: u32,
-    entry: VariationSequenceIndex,
+    entry: Option<usize>,
     next: Class,
-    first: FromSelector,
+    first: Option<Presentation>,
     count: usize,
 ) -> Outcome
     ensures { variation_sequence_index base ≡ entry → result
         ≡ outcome (policy_of policy.now) base next (run_with first count) }
 {
     match entry {
-        VariationSequenceIndex::NoEntry => without_entry(first, count),
-        VariationSequenceIndex::At(index) => {
+        None => without_entry(first, count),
+        Some(index) => {
             let rule = policy::policy_bytes::rule_at(policy, index, is_keycap(next));
             with_entry(base, next, first, count, rule)
         }
@@ -316,7 +283,7 @@ pub fn analyze_by_policy_bytes(
     policy: &[u8],
     base: u32,
     next: Class,
-    first: FromSelector,
+    first: Option<Presentation>,
     count: usize,
 ) -> Outcome
     ensures { result ≡ outcome (policy_of policy.now) base next (run_with first count) }

@@ -1,13 +1,13 @@
 // The eight counts of an item, a finding and a choice: types.rs of the crate evfmt; document 01, "Counts and finding".
 // `empty`, `unsanctioned`, `is_empty` and `add` equal the definitions of specs/Counts.antt.
-ghost use Rattle.std.specs.Prelude.{◌≡◌, ◌↔◌, true, eqb};
+ghost use Rattle.std.specs.Prelude.{◌≡◌, eqb};
 ghost use Rattle.analysis.specs.Counts.{capped_sum, empty, total, unsanctioned};
 
-use base::{Refusal, add_count};
+use base::add_count;
 use emoji::presentation::Presentation;
 
 // The eight counts of an item, in document 01's order.
-#[derive(Clone, Copy)]
+#[derive(Clone, Copy, Debug, Default, PartialEq, Eq)]
 pub struct NonCanonicality {
     pub unsanctioned_selectors: usize,
     pub modifier_defective_selectors: usize,
@@ -20,7 +20,7 @@ pub struct NonCanonicality {
 }
 
 // A listed finding: its bytes, from start up to end, the eight counts, and its start and end in characters and in UTF-16 units.
-#[derive(Clone, Copy)]
+#[derive(Clone, Copy, Debug, PartialEq, Eq)]
 pub struct Finding {
     pub start: usize,
     pub end: usize,
@@ -33,7 +33,7 @@ pub struct Finding {
 
 // A choice: the bytes of its unit, from start up to end, the offset at which the search for the next choice starts, and its
 // default.
-#[derive(Clone, Copy)]
+#[derive(Clone, Copy, Debug, PartialEq, Eq)]
 pub struct ReplacementChoice {
     pub start: usize,
     pub end: usize,
@@ -41,26 +41,12 @@ pub struct ReplacementChoice {
     pub default: Presentation,
 }
 
-// The answer of a cursor over choices: the next choice, or that there is none.
-#[derive(Clone, Copy)]
-pub enum ChoiceStep {
-    Choice(ReplacementChoice),
-    End,
-}
-
-// The answer of mending: the number of bytes written, or a refusal.
-#[derive(Clone, Copy)]
-pub enum MendAnswer {
-    Mended { len: usize },
-    Refused(Refusal),
-}
-
 impl NonCanonicality {
     // All eight counts are 0.
     pub fn empty() -> Self
         ensures { result ≡ empty }
     {
-        NonCanonicality::unsanctioned(0)
+        NonCanonicality::default()
     }
 
     // This number of unsanctioned selectors.
@@ -69,13 +55,7 @@ impl NonCanonicality {
     {
         NonCanonicality {
             unsanctioned_selectors: count,
-            modifier_defective_selectors: 0,
-            additional_defective_selectors: 0,
-            tag_conflicting_selectors: 0,
-            tag_forced_presentations: 0,
-            tag_redundant_selectors: 0,
-            policy_redundant_selectors: 0,
-            presentation_decisions: 0,
+            ..NonCanonicality::default()
         }
     }
 
@@ -83,28 +63,7 @@ impl NonCanonicality {
     pub fn is_empty(self) -> bool
         ensures { result ≡ eqb (total self) 0 }
     {
-        if self.unsanctioned_selectors != 0 {
-            return false;
-        }
-        if self.modifier_defective_selectors != 0 {
-            return false;
-        }
-        if self.additional_defective_selectors != 0 {
-            return false;
-        }
-        if self.tag_conflicting_selectors != 0 {
-            return false;
-        }
-        if self.tag_forced_presentations != 0 {
-            return false;
-        }
-        if self.tag_redundant_selectors != 0 {
-            return false;
-        }
-        if self.policy_redundant_selectors != 0 {
-            return false;
-        }
-        self.presentation_decisions == 0
+        self == NonCanonicality::empty()
     }
 
     // The sum, count by count; a sum above the largest count becomes the largest count.
@@ -145,59 +104,5 @@ impl NonCanonicality {
                 rhs.presentation_decisions,
             ),
         }
-    }
-    // Whether two records of counts are equal.
-    pub fn eq(self, rhs: Self) -> bool
-        ensures { (result ≡ true) ↔ (self ≡ rhs) }
-    {
-        if self.unsanctioned_selectors != rhs.unsanctioned_selectors {
-            return false;
-        }
-        if self.modifier_defective_selectors != rhs.modifier_defective_selectors {
-            return false;
-        }
-        if self.additional_defective_selectors != rhs.additional_defective_selectors {
-            return false;
-        }
-        if self.tag_conflicting_selectors != rhs.tag_conflicting_selectors {
-            return false;
-        }
-        if self.tag_forced_presentations != rhs.tag_forced_presentations {
-            return false;
-        }
-        if self.tag_redundant_selectors != rhs.tag_redundant_selectors {
-            return false;
-        }
-        if self.policy_redundant_selectors != rhs.policy_redundant_selectors {
-            return false;
-        }
-        self.presentation_decisions == rhs.presentation_decisions
-    }
-}
-
-impl Finding {
-    // Whether two findings are equal.
-    pub fn eq(self, rhs: Self) -> bool
-        ensures { (result ≡ true) ↔ (self ≡ rhs) }
-    {
-        if self.start != rhs.start {
-            return false;
-        }
-        if self.end != rhs.end {
-            return false;
-        }
-        if self.char_start != rhs.char_start {
-            return false;
-        }
-        if self.char_end != rhs.char_end {
-            return false;
-        }
-        if self.unit_start != rhs.unit_start {
-            return false;
-        }
-        if self.unit_end != rhs.unit_end {
-            return false;
-        }
-        NonCanonicality::eq(self.counts, rhs.counts)
     }
 }

@@ -5,6 +5,9 @@ use mathlib.Core.Bool.{Bool, true, false, cond, true≢false}
 use mathlib.Core.List.{List, [], ◌∷◌}
 use Prim.Native.Nat.{ℕ, zero, suc, ◌+◌, ◌-◌, ◌≤◌, ◌<◌}
 use native.Mathlib.Omega.{arith}
+use Rattle.std.proofs.Common.{nat_lt}
+use Rattle.std.proofs.lemmas.Grind.{common_steps}
+use Rattle.std.specs.List.{take_while}
 use lib.ListN.{get_or, length, length-drop, drop}
 use lib.Seq.{get_or-drop}
 use Rattle.utf8.specs.Rfc3629.{utf8_1, read_char, valid_up_to_of}
@@ -19,9 +22,13 @@ use Rattle.utf8.proofs.Places.{Step, step}
 pub run_none : (s : List ℕ) (from : ℕ) → AsciiRun s from from
 run_none s from = record { from_le = omega arith; inside = λ h. h; after = λ h. refl; ascii = λ k l h. absurd (omega arith) }
 
-pub up_to_one : (s : List ℕ) (at : ℕ) → AllUpTo (get_or s at 0) s at 1
-up_to_one s at = record {
-  each = λ k l h. let e : k ≡ at = omega arith in omega (arith, ap (λ (n : ℕ). get_or s n 0) e);
+-- A run, and a run that starts where it ends.
+pub run_then : {s : List ℕ} {from at end : ℕ} → AsciiRun s from at → AsciiRun s at end → AsciiRun s from end
+run_then {s} {from} {at} p q = record {
+  from_le = omega (arith, p.from_le, q.from_le);
+  inside = λ l. q.inside (p.inside l);
+  after = λ b. omega (arith, p.after b, q.after (omega (arith, p.after b)));
+  ascii = λ k l j. ⊎_elim (λ b. q.ascii k b j) (λ b. p.ascii k l b) (le_or_lt at k);
 }
 
 pub run_on : {s : List ℕ} {from at : ℕ} (top n : ℕ) → AsciiRun s from at → AllUpTo top s at n → top ≤ 0x7F → at + n ≤ length s
@@ -64,6 +71,9 @@ front (b ∷ s) = go (utf8_1 b) refl (front s)
         each : (k : ℕ) → k < suc (ascii_bytes s) → get_or (b ∷ s) k 0 ≤ 0x7F
         each zero h = ascii_up_to b e
         each (suc k) h = f.ascii k (omega arith)
+
+pub ascii_bytes_le : (s : List ℕ) → ascii_bytes s ≤ length s
+ascii_bytes_le s = (front s).room
 
 -- The run up to `ascii_end`, from any offset.
 run-longest : (s : List ℕ) (from : ℕ) → AsciiRun s from (ascii_end s from)
@@ -109,6 +119,17 @@ at_longest {s} {from} {end} r stop = ⊎_elim within-bytes past (le_or_lt from (
 
     past : length s < from → end ≡ last
     past h = omega (arith, r.after (omega arith), q.after (omega arith))
+
+-- The ASCII bytes at the front are the bytes below 80 that std takes.
+pub bytes_while : (s : List ℕ) → ascii_bytes s ≡ length (take_while (λ b. nat_lt b 128) s)
+unfolding ascii_bytes utf8_1
+bytes_while [] = refl
+bytes_while (b ∷ s) = grind (arith, common_steps, bytes_while s)
+
+-- From the end of a run on, the longest run is the ASCII bytes there.
+pub longest_on : {s : List ℕ} {from : ℕ} (at : ℕ) → AsciiRun s from at → at + ascii_bytes (drop at s) ≡ ascii_end s from
+unfolding ascii_end
+longest_on {s} at r = at_longest (run_then r (run-longest s at)) (longest-ends s at)
 
 -- ---- an ASCII byte is a character of one byte
 

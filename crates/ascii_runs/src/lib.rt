@@ -3,9 +3,9 @@
 // function, since it gets a `str`.
 #![tactic(auto)]
 
-ghost use Rattle.std.specs.Prelude.{◌≡◌, ◌+◌, ◌/◌, ◌≤◌, ◌<◌, get_or};
+ghost use Rattle.std.specs.Prelude.{◌≡◌, ◌/◌, ◌≤◌, length, nat_lt, take_while};
 ghost use Rattle.std.specs.Int.Count.{count_trailing_zeros};
-ghost use Rattle.ascii_runs.specs.Ascii.{AllUpTo, ascii_end};
+ghost use Rattle.ascii_runs.specs.Ascii.{ascii_end};
 
 use base::WORD_BYTES;
 
@@ -16,58 +16,29 @@ const HIGH_BITS: u64 = 0x8080_8080_8080_8080;
 fn zero_bytes(w: u64) -> usize
     ensures { (result ≡ count_trailing_zeros 64 w / 8) × (result ≤ 8) }
 {
-    (u64::trailing_zeros(w) / 8) as usize
+    (w.trailing_zeros() / 8) as usize
 }
 
-// Reads the eight bytes at the offset `at`, skips the first `passed` of them, and counts the ASCII bytes before the
-// first other byte.
-fn ascii_in_word(s: &[u8], at: usize, passed: usize) -> usize
-    requires { passed ≤ 7 }
-    ensures ascii { (AllUpTo 0x7F s.now (at + passed) result) × (passed + result ≤ 8) }
-    ensures next { passed + result < 8 → 0x7F < get_or s.now (at + passed + result) 0 }
+// Counts the ASCII bytes before the first other byte. It looks at one byte at a time.
+fn ascii_bytes(s: &[u8]) -> usize
+    ensures { result ≡ length (take_while (λ b. nat_lt b 128) s.now) }
 {
-    let high = (base::read_word(s, at) & HIGH_BITS) >> (8 * passed);
-    let left = WORD_BYTES - passed;
-    let low = zero_bytes(high);
-    if left < low {
-        return left;
-    }
-    low
+    s.iter().take_while(|b| **b < 0x80).count()
 }
 
-// Returns the end of the run of ASCII bytes that starts at an offset. It looks at one byte at a time.
-fn run_end(s: &[u8], from: usize) -> usize
-    ensures { result ≡ ascii_end s.now from }
-{
-    let mut at = from;
-    while at < s.len() {
-        if 0x7F < s[at] {
-            return at;
-        }
-        at += 1;
-    }
-    at
-}
-
-// Returns the end of the run of ASCII bytes that starts at an offset. The last word ends where the bytes end, so it may
-// overlap the word before it.
+// Returns the end of the run of ASCII bytes that starts at an offset.
 pub fn ascii_end(s: &[u8], from: usize) -> usize
     ensures { result ≡ ascii_end s.now from }
 {
-    if s.len() < WORD_BYTES {
-        return run_end(s, from);
-    }
-    let last = s.len() - WORD_BYTES;
-    let mut at = from;
-    while at <= last {
-        let high = base::read_word(s, at) & HIGH_BITS;
+    let Some(mut rest) = s.get(from..) else {
+        return from;
+    };
+    while let Some((word, after)) = rest.split_first_chunk::<WORD_BYTES>() {
+        let high = u64::from_le_bytes(*word) & HIGH_BITS;
         if high != 0 {
-            return at + zero_bytes(high);
+            return s.len() - rest.len() + zero_bytes(high);
         }
-        at += WORD_BYTES;
+        rest = after;
     }
-    if s.len() <= at {
-        return at;
-    }
-    at + ascii_in_word(s, last, at - last)
+    s.len() - rest.len() + ascii_bytes(rest)
 }

@@ -1,11 +1,11 @@
 -- The proof of each statement of specs/Theorems.antt.
+use Rattle.base.specs.Answers.{answer_row}
 use lib.ListN.{length}
 use borrow.Author.Tests.{le-leb, lt-leb}
 use Rattle.base.specs.Output.{answer_of, buffer_of}
-use Rattle.base.specs.Answers.{write_row}
 use Rattle.base.specs.Words.{word_bytes}
 use Rattle.base.specs.Theorems.{BytesOfNumber, NumberOfWord, AnswerRowsDistinct, RefusalRowsDistinct, WrittenOrRefused}
-use Rattle.base.proofs.Rows.{check_rows, list-rows, rows_distinct, write-rows}
+use Rattle.base.proofs.Rows.{answer-rows, check_rows, found-rows, optional-rows, rows_distinct}
 use Rattle.base.proofs.Words.{little_endian-number, number-little_endian}
 
 pub number_of_word : NumberOfWord
@@ -17,7 +17,7 @@ unfolding BytesOfNumber
 bytes_of_number = little_endian-number
 
 pub written_or_refused : WrittenOrRefused
-unfolding WrittenOrRefused answer_of buffer_of write_row
+unfolding WrittenOrRefused answer_of buffer_of answer_row
 written_or_refused result out = (
   λ h. let t = le-leb (length result) (length out) h in (simp t, simp t),
   λ h. let t = lt-leb (length result) (length out) h in (simp t, simp t),
@@ -28,4 +28,4 @@ refusal_rows_distinct = rows_distinct
 
 pub answer_rows_distinct : AnswerRowsDistinct
 unfolding AnswerRowsDistinct
-answer_rows_distinct = (check_rows, list-rows, write-rows)
+answer_rows_distinct = (check_rows, answer-rows, optional-rows, found-rows)

@@ -1,17 +1,13 @@
 -- Different refusals have different rows, a refusal's number is never 0 or 255, and different answers have different rows.
+use Rattle.std.specs.Prelude.{ℕ, ⊤, Option, None, Some, Result, Ok, Err}
 use mathlib.Core.Path.{◌≡◌, refl, ap, sym, ◌∙◌}
 use mathlib.Core.Bool.{cond}
 use Prim.Native.Nat.{◌≤◌}
 use native.Mathlib.Omega.{arith}
 use lib.Dec.{eqb}
 use Rattle.base.specs.Refusals.{RefusalRow, refusal_row}
-use Rattle.base.specs.Answers.{check_row, list_row, write_row}
+use Rattle.base.specs.Answers.{answer_row, check_row, found_row, optional_row}
 use Rattle.base.specs.Theorems.{RefusalRowsDistinct}
-use Rattle.base.specs.declared.Check.{Check}
-use Rattle.base.specs.declared.ListAnswer.{ListAnswer}
-use Rattle.base.specs.declared.ListAnswer.TheVariants as Listing
-use Rattle.base.specs.declared.WriteAnswer.{WriteAnswer}
-use Rattle.base.specs.declared.WriteAnswer.TheVariants as Write
 use Rattle.base.specs.declared.Refusal.{Refusal}
 use Rattle.base.specs.declared.Refusal.TheVariants.{
   BadClientOrNumber,
@@ -105,23 +101,35 @@ pub refusals : (r s : Refusal) → refusal_row r ≡ refusal_row s → r ≡ s
 unfolding RefusalRowsDistinct
 refusals = rows_distinct
 
-pub check_rows : (a b : Check) → check_row a ≡ check_row b → a ≡ b
+pub check_rows : (a b : Result ⊤ Refusal) → check_row a ≡ check_row b → a ≡ b
 unfolding check_row
-check_rows Check.Passed Check.Passed e = refl
-check_rows Check.Passed (Check.Refused r) e = absurd (omega (arith, num e, refusal_numbers r))
-check_rows (Check.Refused r) Check.Passed e = absurd (omega (arith, num e, refusal_numbers r))
-check_rows (Check.Refused r) (Check.Refused s) e = ap Check.Refused (refusals r s e)
+check_rows (Ok x) (Ok y) e = refl
+check_rows (Ok x) (Err r) e = absurd (omega (arith, num e, refusal_numbers r))
+check_rows (Err r) (Ok x) e = absurd (omega (arith, num e, refusal_numbers r))
+check_rows (Err r) (Err s) e = ap Err (refusals r s e)
 
-pub list-rows : (a b : ListAnswer) → list_row a ≡ list_row b → a ≡ b
-unfolding list_row
-list-rows (Listing.Listed n) (Listing.Listed m) e = ap Listing.Listed (val e)
-list-rows (Listing.Listed n) (Listing.Refused r) e = absurd (omega (arith, num e, refusal_numbers r))
-list-rows (Listing.Refused r) (Listing.Listed n) e = absurd (omega (arith, num e, refusal_numbers r))
-list-rows (Listing.Refused r) (Listing.Refused s) e = ap Listing.Refused (refusals r s e)
+pub answer-rows : (a b : Result ℕ Refusal) → answer_row a ≡ answer_row b → a ≡ b
+unfolding answer_row
+answer-rows (Ok n) (Ok m) e = ap Ok (val e)
+answer-rows (Ok n) (Err r) e = absurd (omega (arith, num e, refusal_numbers r))
+answer-rows (Err r) (Ok n) e = absurd (omega (arith, num e, refusal_numbers r))
+answer-rows (Err r) (Err s) e = ap Err (refusals r s e)
 
-pub write-rows : (a b : WriteAnswer) → write_row a ≡ write_row b → a ≡ b
-unfolding write_row
-write-rows (Write.Written n) (Write.Written m) e = ap Write.Written (val e)
-write-rows (Write.Written n) (Write.TooShort m) e = absurd (omega (arith, num e))
-write-rows (Write.TooShort n) (Write.Written m) e = absurd (omega (arith, num e))
-write-rows (Write.TooShort n) (Write.TooShort m) e = ap Write.TooShort (val e)
+pub optional-rows : (a b : Result (Option ℕ) Refusal) → optional_row a ≡ optional_row b → a ≡ b
+unfolding optional_row
+optional-rows (Ok None) (Ok None) e = refl
+optional-rows (Ok None) (Ok (Some m)) e = absurd (omega (arith, num e))
+optional-rows (Ok None) (Err r) e = absurd (omega (arith, num e, refusal_numbers r))
+optional-rows (Ok (Some n)) (Ok None) e = absurd (omega (arith, num e))
+optional-rows (Ok (Some n)) (Ok (Some m)) e = ap (λ (k : ℕ). Ok (Some k)) (val e)
+optional-rows (Ok (Some n)) (Err r) e = absurd (omega (arith, num e, refusal_numbers r))
+optional-rows (Err r) (Ok None) e = absurd (omega (arith, num e, refusal_numbers r))
+optional-rows (Err r) (Ok (Some m)) e = absurd (omega (arith, num e, refusal_numbers r))
+optional-rows (Err r) (Err s) e = ap Err (refusals r s e)
+
+pub found-rows : (a b : Option ℕ) → found_row a ≡ found_row b → a ≡ b
+unfolding found_row
+found-rows None None e = refl
+found-rows None (Some m) e = absurd (omega (arith, num e))
+found-rows (Some n) None e = absurd (omega (arith, num e))
+found-rows (Some n) (Some m) e = ap Some (val e)

@@ -1,4 +1,5 @@
 -- Rows as bytes: their length, and a table of bytes that has or has not room for them.
+use Rattle.std.specs.Prelude.{Ok, Err}
 use mathlib.Core.Path.{◌≡◌, refl, ap, ap₂, sym, ◌∙◌, subst}
 use mathlib.Core.Bool.{cond}
 use mathlib.Core.List.{List, [], ◌∷◌, ◌++◌, append_assoc}
@@ -12,7 +13,6 @@ use Rattle.base.specs.Output.{PutAt, room_for}
 use Rattle.base.specs.Refusals.{unwritten}
 use Rattle.base.specs.Tables.{fill_table, rows_bytes}
 use Rattle.base.specs.Words.{bytes_of}
-use Rattle.base.specs.declared.ListAnswer.TheVariants.{Listed, Refused}
 use Rattle.base.specs.declared.Refusal.TheVariants.{TableTooShort}
 use Rattle.base.proofs.Output.{bytes_put}
 
@@ -28,9 +28,9 @@ module _ {A : Type 0} (numbers : A → List ℕ) (k : ℕ) (each : (x : A) → l
 
   module _ (some_bytes : 0 < k) (rows : List A) (table : List ℕ) {n : ℕ} (e : n ≡ length rows) where
     -- A table with fewer places than rows is refused.
-    pub rows-refused : length table / k < n → unwritten (Refused (TableTooShort n)) table ≡ fill_table numbers k rows table
+    pub rows-refused : length table / k < n → unwritten (Err (TableTooShort n)) table ≡ fill_table numbers k rows table
     unfolding fill_table
-    rows-refused h = ap (λ (m : ℕ). unwritten (Refused (TableTooShort m)) table) e
+    rows-refused h = ap (λ (m : ℕ). unwritten (Err (TableTooShort m)) table) e
         ∙ simp (lt-leb (length rows) (length table / k) (omega arith))
 
     -- With a place for each row, the bytes of the rows fit into the table.
@@ -38,26 +38,26 @@ module _ {A : Type 0} (numbers : A → List ℕ) (k : ℕ) (each : (x : A) → l
     rows-room h = omega (arith, length_rows rows, (le-div_iff_mul-le some_bytes).0 (subst (λ (m : ℕ). m ≤ length table / k) e h))
 
     pub rows_written : n ≤ length table / k → {after : List ℕ} {r : ℕ} → PutAt table 0 (rows_bytes numbers rows) after r
-        → record { answer = Listed n; buffer = after } ≡ fill_table numbers k rows table
+        → record { answer = Ok n; buffer = after } ≡ fill_table numbers k rows table
     unfolding fill_table
     rows_written h {after} p =
         let b = rows_bytes numbers rows in
         let w : after ≡ b ++ drop (length b) table =
         p.bytes ∙ sets-eq b table 0 (omega (arith, rows-room h)) ∙ ap (λ (k : ℕ). b ++ drop k table) (zero-add (length b)) in
-        ap₂ (λ (m : ℕ) (o : List ℕ). record { answer = Listed m; buffer = o }) e w
+        ap₂ (λ (m : ℕ) (o : List ℕ). record { answer = Ok m; buffer = o }) e w
         ∙ simp (le-leb (length rows) (length table / k) (omega arith))
 
     -- A table with room holds the rows' bytes at its front.
     pub filled : n * k ≤ length table → fill_table numbers k rows table
-        ≡ record { answer = Listed n; buffer = rows_bytes numbers rows ++ drop (n * k) table }
+        ≡ record { answer = Ok n; buffer = rows_bytes numbers rows ++ drop (n * k) table }
     unfolding fill_table
     filled h =
         let b = rows_bytes numbers rows in
         let l : length b ≡ n * k = length_rows rows ∙ ap (λ (m : ℕ). m * k) (sym e) in
         simp (le-leb (length rows) (length table / k) (subst (λ (m : ℕ). m ≤ length table / k) e ((le-div_iff_mul-le some_bytes).1 h)))
-        (ap₂ (λ (m d : ℕ). record { answer = Listed m; buffer = b ++ drop d table }) (sym e) l)
+        (ap₂ (λ (m d : ℕ). record { answer = Ok m; buffer = b ++ drop d table }) (sym e) l)
 
-    pub not-filled : length table < n * k → fill_table numbers k rows table ≡ record { answer = Refused (TableTooShort n); buffer = table }
+    pub not-filled : length table < n * k → fill_table numbers k rows table ≡ record { answer = Err (TableTooShort n); buffer = table }
     not-filled h = sym (rows-refused ((div-lt_iff_lt-mul some_bytes).1 h))
 
 module _ {A : Type 0} (numbers : A → List ℕ) where
@@ -80,12 +80,12 @@ module _ {A : Type 0} (numbers : A → List ℕ) where
 
     -- Without rows, nothing is written.
     pub no_rows : 0 < k → (rows : List A) (table : List ℕ) {n : ℕ} → n ≡ length rows → n ≡ 0
-        → record { answer = Listed n; buffer = table } ≡ fill_table numbers k rows table
+        → record { answer = Ok n; buffer = table } ≡ fill_table numbers k rows table
     unfolding rows_bytes
     no_rows some [] table e z =
-        ap (λ (m : ℕ). record { answer = Listed m; buffer = table }) z
+        ap (λ (m : ℕ). record { answer = Ok m; buffer = table }) z
         ∙ sym (filled numbers k each some [] table refl (omega (arith, zero-mul k))
-        ∙ ap (λ (m : ℕ). record { answer = Listed 0; buffer = drop m table }) (zero-mul k))
+        ∙ ap (λ (m : ℕ). record { answer = Ok 0; buffer = drop m table }) (zero-mul k))
     no_rows some (x ∷ xs) table e z = absurd (omega arith)
 
 -- ---- a row

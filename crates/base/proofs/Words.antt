@@ -6,11 +6,11 @@ use Prim.Native.Nat.{ℕ, zero, suc, ◌+◌, ◌*◌, ◌/◌, ◌%◌, ◌^◌
 use native.Mathlib.Nat.{add-zero, pow-suc}
 use native.Mathlib.Omega.{arith}
 use lib.Dec.{leb}
-use lib.ListN.{drop, get_or, length, length-drop, take}
+use lib.ListN.{drop, get_or, length, length-drop, replicate, take}
 use lib.Seq.{get_or-drop, length-take-le, sets}
 use borrow.Author.Tests.{le-leb, leb-true}
 use Rattle.base.proofs.Tests.{and_both, both_true}
-use Rattle.base.proofs.Writer.{sets_append}
+use Rattle.std.specs.Int.{from_le_bytes, to_le_bytes, w64}
 use Rattle.base.specs.Output.{PutAt}
 use Rattle.base.specs.Words.{all_bytes, has_room, little_endian, number, word_bytes}
 
@@ -57,18 +57,34 @@ number-eight (a ∷ b ∷ []) = omega arith
 number-eight (a ∷ b ∷ c ∷ []) = omega arith
 number-eight (a ∷ b ∷ c ∷ d ∷ xs) = omega arith
 
--- The eight bytes of a number are its lowest four bytes and its next four.
-pub word_halves : (x : ℕ) → word_bytes x ≡ little_endian 4 x ++ little_endian 4 (x / 0x100000000)
-unfolding word_bytes little_endian
-word_halves x =
-    let e : x / 256 / 256 / 256 / 256 ≡ x / 0x100000000 = omega arith in
-    ap (λ (y : ℕ). x % 256 ∷ x / 256 % 256 ∷ x / 256 / 256 % 256 ∷ x / 256 / 256 / 256 % 256 ∷ little_endian 4 y) e
+-- std's number of eight bytes is their number. A byte after the end counts as 0.
+pub le_number : (xs : List ℕ) → from_le_bytes w64 xs ≡ number (take 8 xs)
+le_number xs = omega (arith, number-eight xs, number_four xs, number_four_at 4 xs)
 
--- Two stores of four bytes are one store of eight.
-pub sets_word : (o : List ℕ) (at x : ℕ) → sets (sets o at (little_endian 4 x)) (at + 4) (little_endian 4 (x / 0x100000000))
-    ≡ sets o at (word_bytes x)
-unfolding little_endian
-sets_word o at x = sym (sets_append o at (little_endian 4 x) (little_endian 4 (x / 0x100000000))) ∙ ap (sets o at) (sym (word_halves x))
+-- Zeros after bytes do not change their number.
+number-zeros : (k i : ℕ) → number (drop i (replicate k 0)) ≡ 0
+unfolding number
+number-zeros zero zero = refl
+number-zeros zero (suc i) = refl
+number-zeros (suc k) zero = omega (arith, number-zeros k 0)
+number-zeros (suc k) (suc i) = number-zeros k i
+
+pub number_padded : (xs : List ℕ) (k i : ℕ) → number (xs ++ drop i (replicate k 0)) ≡ number xs
+unfolding number
+number_padded [] k i = number-zeros k i
+number_padded (x ∷ xs) k i = ap (λ (n : ℕ). x + 256 * n) (number_padded xs k i)
+
+-- std's bytes of a number are its eight bytes.
+pub le_word : (x : ℕ) → to_le_bytes w64 x ≡ word_bytes x
+unfolding word_bytes little_endian
+le_word x =
+    let a : x / 65536 ≡ x / 256 / 256 = omega arith in
+    let b : x / 16777216 ≡ x / 256 / 256 / 256 = omega arith in
+    let c : x / 4294967296 ≡ x / 256 / 256 / 256 / 256 = omega arith in
+    let d : x / 1099511627776 ≡ x / 256 / 256 / 256 / 256 / 256 = omega arith in
+    let e : x / 281474976710656 ≡ x / 256 / 256 / 256 / 256 / 256 / 256 = omega arith in
+    let f : x / 72057594037927936 ≡ x / 256 / 256 / 256 / 256 / 256 / 256 / 256 = omega arith in
+    simp (a, b, c, d, e, f)
 
 pub length_word_bytes : (x : ℕ) → length (word_bytes x) ≡ 8
 unfolding word_bytes little_endian

@@ -1,14 +1,9 @@
 -- Answers in document 01's numbers ("Where an answer is an enum, a definition sets out this paper's number and values for each of its
--- cases. The promises use that definition."). This file has the rows of the answers of this crate, and the two promises that name a
--- row. A crate that declares another answer type defines the rows of that type from `done`, `nothing` and `refusal_row`.
-use Rattle.std.specs.Prelude.{◌≡◌, List, ℕ, ◌+◌, ◌*◌, ◌^◌}
+-- cases. The promises use that definition."): the rows of the answers of all crates, and the two promises that name a row. A crate whose
+-- answer holds a type of its own defines its row from `done`, `nothing` and `refusal_row`.
+use Rattle.std.specs.Prelude.{◌≡◌, List, ℕ, ◌+◌, ◌*◌, ◌^◌, ⊤, Option, None, Some, Result, Ok, Err}
 use Rattle.base.specs.Refusals.{After, RefusalRow, refusal_row}
-use Rattle.base.specs.declared.Check.{Check}
-use Rattle.base.specs.declared.ListAnswer.{ListAnswer}
-use Rattle.base.specs.declared.ListAnswer.TheVariants as Listing
-use Rattle.base.specs.declared.Refusal.TheVariants.{OutputTooShort}
-use Rattle.base.specs.declared.WriteAnswer.{WriteAnswer}
-use Rattle.base.specs.declared.WriteAnswer.TheVariants as Write
+use Rattle.base.specs.declared.Refusal.{Refusal}
 
 -- ---- rows
 
@@ -24,20 +19,26 @@ two_values first second = first + second * 2 ^ 28
 abbrev pub nothing : RefusalRow
 nothing = record { number = 255; value = 0 }
 
--- The row of a check: a success without a value, or the refusal's row.
-unfoldable pub check_row : Check → RefusalRow
-check_row Check.Passed = done 0
-check_row (Check.Refused r) = refusal_row r
+-- The row of tests: a success without a value, or the refusal's row.
+unfoldable pub check_row : Result ⊤ Refusal → RefusalRow
+check_row (Ok x) = done 0
+check_row (Err r) = refusal_row r
 
--- The row of filling a table: the number of rows written, or the refusal's row.
-unfoldable pub list_row : ListAnswer → RefusalRow
-list_row (Listing.Listed n) = done n
-list_row (Listing.Refused r) = refusal_row r
+-- The row of a call that returns a number: a success with that number (of bytes, rows or findings), or the refusal's row.
+unfoldable pub answer_row : Result ℕ Refusal → RefusalRow
+answer_row (Ok n) = done n
+answer_row (Err r) = refusal_row r
 
--- The row of writing a result: the number of bytes written, or refusal 8.
-unfoldable pub write_row : WriteAnswer → RefusalRow
-write_row (Write.Written n) = done n
-write_row (Write.TooShort n) = refusal_row (OutputTooShort n)
+-- The row of a call that may have nothing to do or to return: the number 255, a success with a number, or the refusal's row.
+unfoldable pub optional_row : Result (Option ℕ) Refusal → RefusalRow
+optional_row (Ok None) = nothing
+optional_row (Ok (Some n)) = done n
+optional_row (Err r) = refusal_row r
+
+-- The row of a call that finds a number, or nothing.
+unfoldable pub found_row : Option ℕ → RefusalRow
+found_row (Some n) = done n
+found_row None = nothing
 
 -- ---- promises
 

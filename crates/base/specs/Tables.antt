@@ -1,10 +1,9 @@
 -- A table that the caller lends, as bytes: rows of numbers, and the table's contents after it is filled (document 01, "Turned back",
 -- number 7).
-use Rattle.std.specs.Prelude.{cond, List, [], ◌∷◌, ◌++◌, ℕ, ◌/◌, leb, length}
+use Rattle.base.specs.declared.Refusal.{Refusal}
+use Rattle.std.specs.Prelude.{cond, List, [], ◌∷◌, ◌++◌, ℕ, ◌/◌, leb, length, Ok, Err, Result}
 use Rattle.base.specs.Refusals.{After, unwritten, written}
 use Rattle.base.specs.Words.{bytes_of}
-use Rattle.base.specs.declared.ListAnswer.{ListAnswer}
-use Rattle.base.specs.declared.ListAnswer.TheVariants.{Listed, Refused}
 use Rattle.base.specs.declared.Refusal.TheVariants.{TableTooShort}
 
 module _ {A : Type 0} (numbers : A → List ℕ) where
@@ -15,7 +14,7 @@ module _ {A : Type 0} (numbers : A → List ℕ) where
 
   -- Fills a table whose rows have the given number of bytes. The table has as many places as whole rows fit into it; with fewer
   -- places than rows the answer is refusal 7.
-  unfoldable pub fill_table : ℕ → List A → List ℕ → After ListAnswer ℕ
+  unfoldable pub fill_table : ℕ → List A → List ℕ → After (Result ℕ Refusal) ℕ
   fill_table bytes rows table =
-      cond (leb (length rows) (length table / bytes)) (written (Listed (length rows)) (rows_bytes rows) table)
-      (unwritten (Refused (TableTooShort (length rows))) table)
+      cond (leb (length rows) (length table / bytes)) (written (Ok (length rows)) (rows_bytes rows) table)
+      (unwritten (Err (TableTooShort (length rows))) table)

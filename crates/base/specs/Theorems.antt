@@ -1,13 +1,10 @@
 -- Encoding a number as bytes and decoding it are inverse; a result is written or refused; different refusals and different answers have
 -- different rows.
-use Rattle.std.specs.Prelude.{◌≡◌, true, List, ◌++◌, ℕ, ◌^◌, ◌<◌, ◌≤◌, drop, length}
+use Rattle.std.specs.Prelude.{◌≡◌, true, List, ◌++◌, ℕ, ◌^◌, ◌<◌, ◌≤◌, drop, length, Option, Result, ⊤}
 use Rattle.base.specs.Refusals.{refusal_row}
 use Rattle.base.specs.declared.Refusal.{Refusal}
 use Rattle.base.specs.Output.{answer_of, buffer_of}
-use Rattle.base.specs.Answers.{check_row, done, list_row, write_row}
-use Rattle.base.specs.declared.Check.{Check}
-use Rattle.base.specs.declared.ListAnswer.{ListAnswer}
-use Rattle.base.specs.declared.WriteAnswer.{WriteAnswer}
+use Rattle.base.specs.Answers.{answer_row, check_row, done, found_row, optional_row}
 use Rattle.base.specs.Words.{all_bytes, little_endian, number, word_bytes}
 
 -- The eight bytes of a number below 2 to the 64th encode that number.
@@ -24,9 +21,9 @@ unfoldable pub WrittenOrRefused : Type 0
 WrittenOrRefused =
     (result out : List ℕ)
     → (length result ≤ length out
-    → (write_row (answer_of result out) ≡ done (length result)) × (buffer_of result out ≡ result ++ drop (length result) out))
+    → (answer_row (answer_of result out) ≡ done (length result)) × (buffer_of result out ≡ result ++ drop (length result) out))
     × (length out < length result
-    → (write_row (answer_of result out) ≡ record { number = 8; value = length result }) × (buffer_of result out ≡ out))
+    → (answer_row (answer_of result out) ≡ record { number = 8; value = length result }) × (buffer_of result out ≡ out))
 
 -- Different refusals have different rows: no two causes have the same number, and the row holds the value that is returned.
 unfoldable pub RefusalRowsDistinct : Type 0
@@ -35,6 +32,7 @@ RefusalRowsDistinct = (r s : Refusal) → refusal_row r ≡ refusal_row s → r 
 -- Different answers of one type have different rows.
 unfoldable pub AnswerRowsDistinct : Type 0
 AnswerRowsDistinct =
-    ((a b : Check) → check_row a ≡ check_row b → a ≡ b)
-    × ((a b : ListAnswer) → list_row a ≡ list_row b → a ≡ b)
-    × ((a b : WriteAnswer) → write_row a ≡ write_row b → a ≡ b)
+    ((a b : Result ⊤ Refusal) → check_row a ≡ check_row b → a ≡ b)
+    × ((a b : Result ℕ Refusal) → answer_row a ≡ answer_row b → a ≡ b)
+    × ((a b : Result (Option ℕ) Refusal) → optional_row a ≡ optional_row b → a ≡ b)
+    × ((a b : Option ℕ) → found_row a ≡ found_row b → a ≡ b)

@@ -6,28 +6,21 @@
 
 pub mod refusals;
 
-ghost use Rattle.std.specs.Prelude.{◌≡◌, cond, ◌+◌, ◌*◌, ◌%◌, ◌≤◌, drop, get_or, length, take};
+ghost use Rattle.std.specs.Prelude.{◌≡◌, cond, ◌+◌, ◌*◌, ◌%◌, ◌≤◌, ◌<◌, drop, get_or, length, take};
 ghost use Rattle.std.proofs.lemmas.List.Edits.{sets};
 ghost use Rattle.base.specs.Bits.{one};
 ghost use Rattle.base.specs.Output.{WritesAt};
 ghost use Rattle.base.specs.Sums.{capped};
-ghost use Rattle.base.specs.Words.{bytes_of, has_room, little_endian, number, word_bytes};
+ghost use Rattle.base.specs.Words.{bytes_of, has_room, number, word_bytes};
 
 pub const WORD_BYTES: usize = 8;
 
 // "16,777,216 bytes pass, 16,777,217 don't."
 pub const TEXT_LIMIT: usize = 16_777_216;
 
-// The answer to writing a result into a lent buffer: the number of bytes written, or the number of bytes needed.
-#[derive(Clone, Copy)]
-pub enum WriteAnswer {
-    Written { len: usize },
-    TooShort { wanted: usize },
-}
-
 // The reason why a call is refused, with the value that is returned: a row of document 01's table, with those of
 // document 02. The functions in refusals.rt give the number and the value.
-#[derive(Clone, Copy)]
+#[derive(Clone, Copy, Debug, PartialEq, Eq)]
 pub enum Refusal {
     TextTooLong,
     NotAPolicy,
@@ -47,31 +40,11 @@ pub enum Refusal {
     NotAnEntryList,
 }
 
-// The answer to filling a table: the number of rows written, or a refusal.
-#[derive(Clone, Copy)]
-pub enum ListAnswer {
-    Listed { findings: usize },
-    Refused(Refusal),
-}
-
-// The answer to the tests of a call's arguments: all tests passed, or the first refusal.
-#[derive(Clone, Copy)]
-pub enum Check {
-    Passed,
-    Refused(Refusal),
-}
-
-// The largest number that can be held.
-const MOST: usize = 18_446_744_073_709_551_615;
-
 // The sum of two numbers, or the largest number if the sum is greater.
 pub fn add_count(a: usize, b: usize) -> usize
     ensures { result ≡ capped (a + b) }
 {
-    if MOST - a < b {
-        return MOST;
-    }
-    a + b
+    a.saturating_add(b)
 }
 
 // Tests whether bit i mod 64 of a word is 1.
@@ -85,61 +58,52 @@ pub fn has_bit(w: u64, i: usize) -> bool
 pub fn byte_at(s: &[u8], at: usize, i: usize) -> u8
     ensures { result ≡ get_or (drop at s.now) i 0 }
 {
-    if s.len() <= at {
+    let Some(rest) = s.get(at..) else {
         return 0;
-    }
-    if s.len() - at <= i {
-        return 0;
-    }
-    s[at + i]
+    };
+    rest.get(i).copied().unwrap_or(0)
 }
 
-// Returns the byte at offset at + i as a number of 64 bits, or 0 if the slice ends before it.
-fn byte(s: &[u8], at: usize, i: usize) -> u64
-    ensures { (result ≡ get_or (drop at s.now) i 0) × (result ≤ 255) }
+// Returns the number that fewer than eight bytes encode.
+fn short_word(bytes: &[u8]) -> u64
+    requires { length bytes.now < 8 }
+    ensures { result ≡ number bytes.now }
 {
-    byte_at(s, at, i) as u64
-}
-
-// Returns the number that four bytes encode, lowest byte first. It is a sum of two pairs of bytes: the compiler makes
-// one load of such a sum where it knows that the bytes are there.
-fn half(s: &[u8], at: usize, i: usize) -> u64
-    requires { i ≤ 4 }
-    ensures { (result ≡ number (take 4 (drop i (drop at s.now)))) × (result ≤ 0xFFFFFFFF) }
-{
-    byte(s, at, i)
-        + 256 * byte(s, at, i + 1)
-        + 65536 * (byte(s, at, i + 2) + 256 * byte(s, at, i + 3))
+    let mut word = [0; WORD_BYTES];
+    word[..bytes.len()].copy_from_slice(bytes);
+    u64::from_le_bytes(word)
 }
 
 // Returns the number that the eight bytes from the offset `at` encode. A byte after the end counts as 0.
 pub fn read_word(s: &[u8], at: usize) -> u64
     ensures { result ≡ number (take 8 (drop at s.now)) }
 {
-    half(s, at, 0) + 0x1_0000_0000 * half(s, at, 4)
+    let Some(rest) = s.get(at..) else {
+        return 0;
+    };
+    match rest.first_chunk::<WORD_BYTES>() {
+        Some(word) => u64::from_le_bytes(*word),
+        None => short_word(rest),
+    }
 }
 
-// Stores the lowest four bytes of a number.
-fn put_half(out: &mut [u8], at: usize, x: u64)
-    requires { at + 4 ≤ length out.old }
-    ensures { out.new ≡ sets out.old at (little_endian 4 x) }
+// Stores bytes at an offset.
+fn put_bytes(out: &mut [u8], at: usize, bytes: &[u8])
+    requires { at + length bytes.now ≤ length out.old }
+    ensures { out.new ≡ sets out.old at bytes.now }
 {
-    let second = x / 256;
-    let third = second / 256;
-    let fourth = third / 256;
-    out[at] = (x % 256) as u8;
-    out[at + 1] = (second % 256) as u8;
-    out[at + 2] = (third % 256) as u8;
-    out[at + 3] = (fourth % 256) as u8;
+    out[at..at + bytes.len()].copy_from_slice(bytes);
 }
 
-// Stores the eight bytes of a number.
-fn put_word(out: &mut [u8], at: usize, x: u64)
-    requires { at + 8 ≤ length out.old }
-    ensures { out.new ≡ sets out.old at (word_bytes x) }
+// Writes bytes at an offset and returns true. Without room for them it returns false and changes nothing.
+pub fn write_bytes(out: &mut [u8], at: usize, bytes: &[u8]) -> bool
+    ensures { WritesAt bytes.now out.old at result out.new }
 {
-    put_half(out, at, x);
-    put_half(out, at + 4, x / 0x1_0000_0000);
+    if out.len() < bytes.len() || out.len() - bytes.len() < at {
+        return false;
+    }
+    put_bytes(out, at, bytes);
+    true
 }
 
 // Writes the eight bytes of a number at an offset and returns true. Without room for them it returns false and changes
@@ -148,69 +112,15 @@ pub fn write_word(out: &mut [u8], at: usize, x: u64) -> bool
     ensures { (result ≡ has_room out.old at)
         × (out.new ≡ cond (has_room out.old at) (sets out.old at (word_bytes x)) out.old) }
 {
-    if out.len() < WORD_BYTES {
-        return false;
-    }
-    if out.len() - WORD_BYTES < at {
-        return false;
-    }
-    put_word(out, at, x);
-    true
+    write_bytes(out, at, &x.to_le_bytes())
 }
 
-// Copies bytes to an offset, one by one.
-fn put_each(out: &mut [u8], start: usize, bytes: &[u8])
-    requires { start + length bytes.now ≤ length out.old }
-    ensures { out.new ≡ sets out.old start bytes.now }
-{
-    let mut at = start;
-    let mut i = 0;
-    while i < bytes.len() {
-        out[at] = bytes[i];
-        at += 1;
-        i += 1;
-    }
-}
-
-// Copies bytes to an offset, eight at a time. The last eight end where the bytes end, so they may overlap the eight
-// before them.
-fn put_bytes(out: &mut [u8], start: usize, bytes: &[u8])
-    requires { start + length bytes.now ≤ length out.old }
-    ensures { out.new ≡ sets out.old start bytes.now }
-{
-    if bytes.len() < WORD_BYTES {
-        put_each(out, start, bytes);
-        return;
-    }
-    let last = bytes.len() - WORD_BYTES;
-    let mut i = 0;
-    while i < last {
-        put_word(out, start + i, read_word(bytes, i));
-        i += WORD_BYTES;
-    }
-    put_word(out, start + last, read_word(bytes, last));
-}
-
-// Writes bytes at an offset and returns true. Without room for them it returns false and changes nothing.
-pub fn write_bytes(out: &mut [u8], at: usize, bytes: &[u8]) -> bool
-    ensures { WritesAt bytes.now out.old at result out.new }
-{
-    if out.len() < bytes.len() {
-        return false;
-    }
-    if out.len() - bytes.len() < at {
-        return false;
-    }
-    put_bytes(out, at, bytes);
-    true
-}
-
-// Stores the eight bytes of a `usize`.
+// Stores the eight bytes of a `usize` at an offset.
 fn put_number(out: &mut [u8], at: usize, n: usize)
     requires { at + 8 ≤ length out.old }
     ensures { out.new ≡ sets out.old at (word_bytes n) }
 {
-    put_word(out, at, n as u64);
+    put_bytes(out, at, &n.to_le_bytes());
 }
 
 // Stores numbers from an offset on, eight bytes each.
@@ -219,23 +129,19 @@ fn put_numbers(out: &mut [u8], start: usize, numbers: &[usize])
     ensures { out.new ≡ sets out.old start (bytes_of numbers.now) }
 {
     let mut at = start;
-    let mut i = 0;
-    while i < numbers.len() {
-        put_number(out, at, numbers[i]);
+    for number in numbers {
+        put_number(out, at, *number);
         at += WORD_BYTES;
-        i += 1;
     }
 }
 
 // Writes numbers at an offset, eight bytes each, and returns true. Without room for them it returns false and changes
 // nothing.
+#[tactic(auto, using(crate::proofs::Numbers::length_bytes_of_lem))]
 pub fn write_numbers(out: &mut [u8], at: usize, numbers: &[usize]) -> bool
     ensures { WritesAt (bytes_of numbers.now) out.old at result out.new }
 {
-    if out.len() / WORD_BYTES < numbers.len() {
-        return false;
-    }
-    if out.len() - numbers.len() * WORD_BYTES < at {
+    if out.len() / WORD_BYTES < numbers.len() || out.len() - numbers.len() * WORD_BYTES < at {
         return false;
     }
     put_numbers(out, at, numbers);

@@ -1,4 +1,5 @@
 -- The largest cut below an offset, and the two parts of a well-formed text at a cut.
+use Rattle.std.specs.Prelude.{Some, None, Option}
 use mathlib.Core.Path.{◌≡◌, refl, ap, sym, ◌∙◌, subst}
 use mathlib.Core.Logic.{◌↔◌, ⊎_elim}
 use mathlib.Core.Bool.{Bool, true, false, cond, ◌||◌, true≢false}
@@ -18,8 +19,6 @@ use Rattle.positions.proofs.Boundaries.{boundary_means}
 use Rattle.positions.proofs.Counting.{char-count, rest_well_formed}
 use Rattle.cutting.specs.Cut.{cut_before, cut_below, first_may_begin, is_cut}
 use Rattle.cutting.specs.Theorems.{BeginsPart, InTwo, IsLargest, begins, is_empty_lem}
-use Rattle.cutting.specs.declared.Cut.{Cut}
-use Rattle.cutting.specs.declared.Cut.TheVariants.{At, Nowhere}
 
 -- ---- one offset
 
@@ -45,21 +44,21 @@ no_cut_past text n h =
 
 -- ---- one step of the search
 
-here : (text : List ℕ) (n : ℕ) → is_cut text n ≡ true → cut_below text (suc n) ≡ At n
+here : (text : List ℕ) (n : ℕ) → is_cut text n ≡ true → cut_below text (suc n) ≡ Some n
 unfolding cut_below
-here text n e = ap (λ (b : Bool). cond b (At n) (cut_below text n)) e
+here text n e = ap (λ (b : Bool). cond b (Some n) (cut_below text n)) e
 
 below : (text : List ℕ) (n : ℕ) → is_cut text n ≡ false → cut_below text (suc n) ≡ cut_below text n
 unfolding cut_below
-below text n e = ap (λ (b : Bool). cond b (At n) (cut_below text n)) e
+below text n e = ap (λ (b : Bool). cond b (Some n) (cut_below text n)) e
 
 -- A step of the loop, from the offset k to k - 1.
 pub step-here : (text : List ℕ) (k : ℕ) → 0 < k → k ≤ length text → first_may_begin (chars (drop (k - 1) text)) ≡ true
-    → cut_below text k ≡ At (k - 1)
+    → cut_below text k ≡ Some (k - 1)
 step-here text zero h l e = absurd (omega arith)
 step-here text (suc n) h l e =
     let z : n ≡ suc n - 1 = omega arith in
-    here text n (cut_inside text n (omega arith) ∙ ap (λ (i : ℕ). first_may_begin (chars (drop i text))) z ∙ e) ∙ ap At z
+    here text n (cut_inside text n (omega arith) ∙ ap (λ (i : ℕ). first_may_begin (chars (drop i text))) z ∙ e) ∙ ap Some z
 
 pub step-below : (text : List ℕ) (k : ℕ) → 0 < k → k ≤ length text → first_may_begin (chars (drop (k - 1) text)) ≡ false
     → cut_below text k ≡ cut_below text (k - 1)
@@ -69,15 +68,15 @@ step-below text (suc n) h l e =
     below text n (cut_inside text n (omega arith) ∙ ap (λ (i : ℕ). first_may_begin (chars (drop i text))) z ∙ e) ∙ ap (cut_below text) z
 
 -- Below an offset after the text's end, the text's length is the largest cut.
-past_end : (text : List ℕ) (n : ℕ) → length text < n → cut_below text n ≡ At (length text)
+past_end : (text : List ℕ) (n : ℕ) → length text < n → cut_below text n ≡ Some (length text)
 past_end text zero h = absurd (omega arith)
 past_end text (suc n) h =
     ⊎_elim (λ l. below text n (no_cut_past text n l) ∙ past_end text n l)
     (λ l. let e : n ≡ length text = omega arith in
-    here text n (ap (is_cut text) e ∙ cut_at_end text) ∙ ap At e)
+    here text n (ap (is_cut text) e ∙ cut_at_end text) ∙ ap Some e)
     (le_or_lt (suc (length text)) n)
 
-pub from_end : (text : List ℕ) (offset : ℕ) → length text ≤ offset → cut_before text offset ≡ At (length text)
+pub from_end : (text : List ℕ) (offset : ℕ) → length text ≤ offset → cut_before text offset ≡ Some (length text)
 unfolding cut_before
 from_end text offset h = past_end text (suc offset) (omega arith)
 
@@ -88,11 +87,11 @@ cut_within text n e =
     ⊎_elim (λ l. l) (λ l. absurd (true≢false (sym e ∙ no_cut_past text n l))) (le_or_lt n (length text))
 
 -- The answer below an offset: the largest cut there.
-pub data Below (text : List ℕ) (k : ℕ) : Cut → Type 0 where
-  found : (n : ℕ) → n < k → is_cut text n ≡ true → ((m : ℕ) → n < m → m < k → is_cut text m ≡ false) → Below text k (At n)
-  none_found : ((m : ℕ) → m < k → is_cut text m ≡ false) → Below text k Nowhere
+pub data Below (text : List ℕ) (k : ℕ) : Option ℕ → Type 0 where
+  found : (n : ℕ) → n < k → is_cut text n ≡ true → ((m : ℕ) → n < m → m < k → is_cut text m ≡ false) → Below text k (Some n)
+  none_found : ((m : ℕ) → m < k → is_cut text m ≡ false) → Below text k None
 
-one_more : {text : List ℕ} {k : ℕ} {c : Cut} → is_cut text k ≡ false → Below text k c → Below text (suc k) c
+one_more : {text : List ℕ} {k : ℕ} {c : Option ℕ} → is_cut text k ≡ false → Below text k c → Below text (suc k) c
 one_more {text} {k} e (found n l a h) =
     found n (omega arith) a
     (λ m p q. ⊎_elim (λ r. h m p r) (λ r. ap (is_cut text) (let z : m ≡ k = omega arith in z) ∙ e) (le_or_lt (suc m) k))
@@ -108,7 +107,7 @@ cut_below_lem text (suc k) = go (is_cut text k) refl (cut_below_lem text k)
     go true e h = subst (Below text (suc k)) (sym (here text k e)) (found k (omega arith) e (λ m p q. absurd (omega arith)))
     go false e h = subst (Below text (suc k)) (sym (below text k e)) (one_more e h)
 
-as_largest : {text : List ℕ} {offset : ℕ} {c : Cut} → Below text (suc offset) c → IsLargest text offset c
+as_largest : {text : List ℕ} {offset : ℕ} {c : Option ℕ} → Below text (suc offset) c → IsLargest text offset c
 as_largest {text} {offset} (found k l a h) = record {
   at_or_below = λ n e. let x : k ≡ n = cc in omega arith;
   within_text = λ n e. let x : k ≡ n = cc in subst (λ (i : ℕ). i ≤ length text) x (cut_within text k a);

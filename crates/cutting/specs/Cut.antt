@@ -1,13 +1,9 @@
 -- Where a text may be cut in two, and the largest such cut at or below an offset (document 02, xiii). `EveryCut` of specs/Theorems.antt
 -- says that a text cut there formats to the two results joined.
-use Rattle.std.specs.Prelude.{Bool, false, cond, not, ◌||◌, List, [], ◌∷◌, ℕ, zero, suc, eqb, drop, length}
-use Rattle.base.specs.Answers.{done, nothing}
-use Rattle.base.specs.Refusals.{RefusalRow}
+use Rattle.std.specs.Prelude.{Bool, false, cond, not, ◌||◌, List, [], ◌∷◌, ℕ, zero, suc, eqb, drop, length, Some, None, Option}
 use Rattle.utf8.specs.Rfc3629.{chars}
 use Rattle.emoji.specs.Presentation.{is_selector}
 use Rattle.emoji.specs.Unicode.{is_emoji_modifier, is_tag}
-use Rattle.cutting.specs.declared.Cut.{Cut}
-use Rattle.cutting.specs.declared.Cut.TheVariants.{At, Nowhere}
 
 -- "a character that is no selector, modifier, 20E3 or tag"
 unfoldable pub may_begin : ℕ → Bool
@@ -24,15 +20,10 @@ unfoldable pub is_cut : List ℕ → ℕ → Bool
 is_cut text n = eqb n (length text) || first_may_begin (chars (drop n text))
 
 -- The largest allowed cut below an offset, if there is one.
-unfoldable pub cut_below : List ℕ → ℕ → Cut
-cut_below text zero = Nowhere
-cut_below text (suc n) = cond (is_cut text n) (At n) (cut_below text n)
+unfoldable pub cut_below : List ℕ → ℕ → Option ℕ
+cut_below text zero = None
+cut_below text (suc n) = cond (is_cut text n) (Some n) (cut_below text n)
 
 -- The largest allowed cut at or below an offset, if there is one. The offset is any number.
-unfoldable pub cut_before : List ℕ → ℕ → Cut
+unfoldable pub cut_before : List ℕ → ℕ → Option ℕ
 cut_before text offset = cut_below text (suc offset)
-
--- The row of the answer: done with the cut, or 255, there is none. There is no refusal.
-unfoldable pub cut_row : Cut → RefusalRow
-cut_row (At n) = done n
-cut_row Nowhere = nothing

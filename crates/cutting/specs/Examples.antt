@@ -1,6 +1,6 @@
 -- Cuts with their results, under the default policy: two that `EveryCut` covers although items are divided differently there, and five
 -- outside the claim, where the joined results are not those of the whole.
-use Rattle.std.specs.Prelude.{◌≡◌, List, [], ◌∷◌, ◌++◌, map, ℕ, ◌+◌, length}
+use Rattle.std.specs.Prelude.{◌≡◌, List, [], ◌∷◌, ◌++◌, map, ℕ, ◌+◌, length, Some, None}
 use Rattle.utf8.specs.Rfc3629.{encode_all}
 use Rattle.scanner.specs.Items.{items}
 use Rattle.analysis.specs.Counts.{◌⊕◌, eight, empty}
@@ -9,7 +9,6 @@ use Rattle.formatter.specs.Findings.{text_totals}
 use Rattle.formatter.specs.Format.{formatted}
 use Rattle.formatter.specs.Worked.{the_default}
 use Rattle.cutting.specs.Cut.{cut_before}
-use Rattle.cutting.specs.declared.Cut.TheVariants.{At, Nowhere}
 
 -- A formatted text, the eight totals, and the number of items.
 pub record Result : Type 0 where
@@ -68,6 +67,6 @@ UncoveredExamples =
 unfoldable pub CutExamples : Type 0
 CutExamples =
     (map (cut_before (encode_all (0x31 ∷ 0x20E3 ∷ 0x2764 ∷ []))) (0 ∷ 1 ∷ 2 ∷ 3 ∷ 4 ∷ 5 ∷ 6 ∷ 7 ∷ 8 ∷ [])
-    ≡ At 0 ∷ At 0 ∷ At 0 ∷ At 0 ∷ At 4 ∷ At 4 ∷ At 4 ∷ At 7 ∷ At 7 ∷ [])
-    × (map (cut_before (encode_all (0xE0061 ∷ []))) (0 ∷ 3 ∷ 4 ∷ []) ≡ Nowhere ∷ Nowhere ∷ At 4 ∷ [])
-    × (map (cut_before (0x31 ∷ 0xA3 ∷ 0x31 ∷ [])) (0 ∷ 1 ∷ 2 ∷ 3 ∷ []) ≡ At 0 ∷ At 0 ∷ At 2 ∷ At 3 ∷ [])
+    ≡ Some 0 ∷ Some 0 ∷ Some 0 ∷ Some 0 ∷ Some 4 ∷ Some 4 ∷ Some 4 ∷ Some 7 ∷ Some 7 ∷ [])
+    × (map (cut_before (encode_all (0xE0061 ∷ []))) (0 ∷ 3 ∷ 4 ∷ []) ≡ None ∷ None ∷ Some 4 ∷ [])
+    × (map (cut_before (0x31 ∷ 0xA3 ∷ 0x31 ∷ [])) (0 ∷ 1 ∷ 2 ∷ 3 ∷ []) ≡ Some 0 ∷ Some 0 ∷ Some 2 ∷ Some 3 ∷ [])

@@ -1,6 +1,6 @@
 -- What is claimed of a text that is cut (document 02, xiii). Each statement is proved in proofs/Claims.antt, under the same name in snake
 -- case.
-use Rattle.std.specs.Prelude.{◌≡◌, ◌↔◌, true, false, List, [], ◌∷◌, ◌++◌, ℕ, ◌≤◌, ◌<◌, drop, length, take}
+use Rattle.std.specs.Prelude.{◌≡◌, ◌↔◌, true, false, List, [], ◌∷◌, ◌++◌, ℕ, ◌≤◌, ◌<◌, drop, length, take, Some, None, Option}
 use Rattle.utf8.specs.Rfc3629.{WellFormed, chars}
 use Rattle.analysis.specs.Counts.{◌⊕◌, empty}
 use Rattle.analysis.specs.declared.types.NonCanonicality.{NonCanonicality}
@@ -8,8 +8,6 @@ use Rattle.formatter.specs.Demand3.{Accepted}
 use Rattle.formatter.specs.Findings.{text_totals}
 use Rattle.formatter.specs.Format.{formatted}
 use Rattle.cutting.specs.Cut.{cut_before, is_cut, may_begin}
-use Rattle.cutting.specs.declared.Cut.{Cut}
-use Rattle.cutting.specs.declared.Cut.TheVariants.{At, Nowhere}
 
 -- ---- two parts
 
@@ -71,12 +69,12 @@ CutMeans = (text : List ℕ) (n : ℕ) → n ≤ length text → (is_cut text n 
 
 -- The answer is the largest allowed cut at or below the offset: it is allowed, and none between it and the offset is. If the answer is
 -- that there is none, no offset up to this one is an allowed cut. The text is any bytes.
-pub record IsLargest (text : List ℕ) (offset : ℕ) (answer : Cut) : Type 0 where
-  pub at_or_below : (n : ℕ) → answer ≡ At n → n ≤ offset
-  pub within_text : (n : ℕ) → answer ≡ At n → n ≤ length text
-  pub allowed : (n : ℕ) → answer ≡ At n → is_cut text n ≡ true
-  pub none_larger : (n m : ℕ) → answer ≡ At n → n < m → m ≤ offset → is_cut text m ≡ false
-  pub none : answer ≡ Nowhere → (m : ℕ) → m ≤ offset → is_cut text m ≡ false
+pub record IsLargest (text : List ℕ) (offset : ℕ) (answer : Option ℕ) : Type 0 where
+  pub at_or_below : (n : ℕ) → answer ≡ Some n → n ≤ offset
+  pub within_text : (n : ℕ) → answer ≡ Some n → n ≤ length text
+  pub allowed : (n : ℕ) → answer ≡ Some n → is_cut text n ≡ true
+  pub none_larger : (n m : ℕ) → answer ≡ Some n → n < m → m ≤ offset → is_cut text m ≡ false
+  pub none : answer ≡ None → (m : ℕ) → m ≤ offset → is_cut text m ≡ false
 
 unfoldable pub EveryLargestCut : Type 0
 EveryLargestCut = (text : List ℕ) (offset : ℕ) → IsLargest text offset (cut_before text offset)
@@ -91,9 +89,9 @@ pub record InTwo (text : List ℕ) (n : ℕ) : Type 0 where
 -- Every cut that is answered for a well-formed text is one that `EveryCut` covers, so the parts' results are the whole's.
 unfoldable pub EveryAnswerJoins : Type 0
 EveryAnswerJoins =
-    (policy text : List ℕ) (offset n : ℕ) → WellFormed text → cut_before text offset ≡ At n
+    (policy text : List ℕ) (offset n : ℕ) → WellFormed text → cut_before text offset ≡ Some n
     → InTwo text n × Joins policy (take n text) (drop n text)
 
 -- An offset from the text's length on answers the text's length.
 unfoldable pub EndIsCut : Type 0
-EndIsCut = (text : List ℕ) (offset : ℕ) → length text ≤ offset → cut_before text offset ≡ At (length text)
+EndIsCut = (text : List ℕ) (offset : ℕ) → length text ≤ offset → cut_before text offset ≡ Some (length text)

@@ -8,14 +8,7 @@ ghost use Rattle.utf8.specs.Rfc3629.{chars};
 ghost use Rattle.cutting.specs.Cut.{cut_before, first_may_begin};
 ghost use Rattle.cutting.specs.Helpers.{class_may_begin};
 
-use scanner::char_class::{Class, Peeked, peek};
-
-// The answer: the cut, or that there is none.
-#[derive(Clone, Copy)]
-pub enum Cut {
-    At(usize),
-    Nowhere,
-}
+use scanner::char_class::{Class, peek};
 
 // Whether a character of this class may begin the second part.
 fn class_may_begin(class: Class) -> bool
@@ -38,29 +31,25 @@ fn begins_part(text: &[u8], at: usize) -> bool
     ensures { result ≡ first_may_begin (chars (drop at text.now)) }
 {
     match peek(text, at) {
-        Peeked::Char {
-            value: _,
-            class,
-            end: _,
-        } => class_may_begin(class),
-        Peeked::NoChar => false,
+        Some(seen) => class_may_begin(seen.class),
+        None => false,
     }
 }
 
 // The largest allowed cut at or below an offset. It reads back from the offset and stops at the first cut, so its cost is by the distance
 // between the two, and not by the text.
-pub fn cut_before(text: &[u8], offset: usize) -> Cut
+pub fn cut_before(text: &[u8], offset: usize) -> Option<usize>
     ensures { result ≡ cut_before text.now offset }
 {
     if text.len() <= offset {
-        return Cut::At(text.len());
+        return Some(text.len());
     }
     let mut at = offset + 1;
     while 0 < at {
         at -= 1;
         if begins_part(text, at) {
-            return Cut::At(at);
+            return Some(at);
         }
     }
-    Cut::Nowhere
+    None
 }

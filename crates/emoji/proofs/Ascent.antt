@@ -1,4 +1,10 @@
 -- Ascending lists, and the index of a number in one.
+use Rattle.std.proofs.Common.{nat_cmp}
+use Rattle.std.proofs.lemmas.List.Sorted.{searched}
+use Rattle.std.specs.List.Sorted.{IsBinarySearchResult}
+use Rattle.std.specs.Option.{is_some, unwrap_or}
+use Rattle.std.specs.Result.{result_ok}
+use Rattle.std.specs.Prelude.{Some, None, Option, Ok, Err, Result}
 use mathlib.Core.Path.{◌≡◌, refl, sym, ap, ◌∙◌, subst}
 use mathlib.Core.Logic.{⊎_elim}
 use mathlib.Core.Bool.{Bool, true, false, cond, ◌||◌}
@@ -10,9 +16,6 @@ use lib.Dec.{eqb, ltb}
 use lib.ListN.{length, get_or}
 use borrow.Author.Tests.{eqb-true, ltb-true, eq-eqb, ne_eqb}
 use Rattle.emoji.specs.Tables.{ascending, ascending_from, entry_at, index_of, member, next}
-use Rattle.emoji.specs.declared.VariationEntry.TheVariants as Entry
-use Rattle.emoji.specs.declared.VariationSequenceIndex.{VariationSequenceIndex}
-use Rattle.emoji.specs.declared.VariationSequenceIndex.TheVariants as Index
 use Rattle.base.proofs.Tests.{both_true, le_or_lt}
 
 -- Every element is above the number before the list.
@@ -50,7 +53,7 @@ ascending_le (x ∷ xs) t (suc j) (suc k) h l =
     ascending_le xs (ascending-tail x xs t) j k (le_of_suc-le-suc h) (le_of_suc-le-suc l)
 
 -- If no element is c, c has no index.
-pub index_none : (c : ℕ) (xs : List ℕ) → ((k : ℕ) → k < length xs → get_or xs k 0 ≡ c → ⊥) → index_of c xs ≡ Index.NoEntry
+pub index_none : (c : ℕ) (xs : List ℕ) → ((k : ℕ) → k < length xs → get_or xs k 0 ≡ c → ⊥) → index_of c xs ≡ None
 unfolding index_of next
 index_none c [] h = refl
 index_none c (x ∷ xs) h =
@@ -58,7 +61,7 @@ index_none c (x ∷ xs) h =
 
 -- If element k is c and no earlier element is, the index of c is k.
 pub index_first : (c : ℕ) (xs : List ℕ) (k : ℕ) → k < length xs → get_or xs k 0 ≡ c → ((j : ℕ) → j < k → get_or xs j 0 ≡ c → ⊥)
-    → index_of c xs ≡ Index.At k
+    → index_of c xs ≡ Some k
 unfolding index_of next
 index_first c [] k l e h = absurd (not-suc-le-zero l)
 index_first c (x ∷ xs) zero l e h = simp (eq-eqb x c e)
@@ -69,57 +72,69 @@ index_first c (x ∷ xs) (suc k) l e h =
     )
 
 -- The search found an index.
-unfoldable pub is_at : VariationSequenceIndex → Bool
-is_at (Index.At i) = true
-is_at Index.NoEntry = false
-
-is_at-next : (r : VariationSequenceIndex) → is_at (next r) ≡ is_at r
-unfolding is_at next
-is_at-next (Index.At i) = refl
-is_at-next Index.NoEntry = refl
+unfoldable pub is_at : Option ℕ → Bool
+is_at r = is_some r
 
 -- A list contains a number exactly when the number has an index.
 pub member_index : (c : ℕ) (xs : List ℕ) → member c xs ≡ is_at (index_of c xs)
-unfolding member index_of is_at
+unfolding member index_of next is_at
 member_index c [] = refl
-member_index c (x ∷ xs) = go (eqb x c) (member_index c xs)
+member_index c (x ∷ xs) = go (eqb x c) (index_of c xs) (member_index c xs)
   where
-    go : (t : Bool) → member c xs ≡ is_at (index_of c xs) → (t || member c xs) ≡ is_at (cond t (Index.At 0) (next (index_of c xs)))
-    go true h = refl
-    go false h = h ∙ sym (is_at-next (index_of c xs))
+    go : (t : Bool) (r : Option ℕ) → member c xs ≡ is_some r → (t || member c xs) ≡ is_some (cond t (Some 0) (next r))
+    go true r h = refl
+    go false None h = h
+    go false (Some i) h = h
+
+-- What a binary search of an ascending list answers is the index of the number.
+pub found_index : (c : ℕ) (xs : List ℕ) (r : Result ℕ ℕ) → ascending xs ≡ true → IsBinarySearchResult (λ y. nat_cmp y c) xs r
+    → result_ok r ≡ index_of c xs
+found_index c xs (Ok i) t h =
+    let f = searched xs c (Ok i) h (ascending_le xs t) in
+    sym (index_first c xs i f.0 f.1 (λ j l e. omega (arith, ascending_lt xs t j i l f.0)))
+found_index c xs (Err i) t h =
+    let f = searched xs c (Err i) h (ascending_le xs t) in
+    sym (index_none c xs (λ k l e. ⊎_elim (λ (p : i ≤ k). omega (arith, f.2 k p l)) (λ (p : k < i). omega (arith, f.1 k p)) (le_or_lt i k)))
 
 -- The entry at an index is the element there. From the list's length on there is no entry.
-pub entry_in_lem : (i : ℕ) (xs : List ℕ) → i < length xs → entry_at i xs ≡ Entry.Char (get_or xs i 0)
+pub entry_in_lem : (i : ℕ) (xs : List ℕ) → i < length xs → entry_at i xs ≡ Some (get_or xs i 0)
 unfolding entry_at
 entry_in_lem i [] h = absurd (not-suc-le-zero h)
 entry_in_lem zero (x ∷ xs) h = refl
 entry_in_lem (suc i) (x ∷ xs) h = entry_in_lem i xs (le_of_suc-le-suc h)
 
-pub entry_out : (i : ℕ) (xs : List ℕ) → length xs ≤ i → entry_at i xs ≡ Entry.NoEntry
+pub entry_out : (i : ℕ) (xs : List ℕ) → length xs ≤ i → entry_at i xs ≡ None
 unfolding entry_at
 entry_out i [] h = refl
 entry_out zero (x ∷ xs) h = absurd (not-suc-le-zero h)
 entry_out (suc i) (x ∷ xs) h = entry_out i xs (le_of_suc-le-suc h)
 
+-- The entry at an index, or 0.
+pub entry_or : (i : ℕ) (xs : List ℕ) → unwrap_or (entry_at i xs) 0 ≡ get_or xs i 0
+unfolding entry_at
+entry_or i [] = refl
+entry_or zero (x ∷ xs) = refl
+entry_or (suc i) (x ∷ xs) = entry_or i xs
+
 -- The entry at the index of c is c.
-pub index_holds : (c : ℕ) (xs : List ℕ) (i : ℕ) → index_of c xs ≡ Index.At i → entry_at i xs ≡ Entry.Char c
+pub index_holds : (c : ℕ) (xs : List ℕ) (i : ℕ) → index_of c xs ≡ Some i → entry_at i xs ≡ Some c
 unfolding index_of entry_at next
 index_holds c [] i e = cc
 index_holds c (x ∷ xs) i e = go (eqb x c) refl (index_of c xs) refl i e (λ k. index_holds c xs k)
   where
-    go : (t : Bool) → eqb x c ≡ t → (r : VariationSequenceIndex) → index_of c xs ≡ r → (i : ℕ) → cond t (Index.At 0) (next r) ≡ Index.At i
-        → ((k : ℕ) → index_of c xs ≡ Index.At k → entry_at k xs ≡ Entry.Char c) → entry_at i (x ∷ xs) ≡ Entry.Char c
-    go true p r q zero e ih = ap Entry.Char (eqb-true x c p)
+    go : (t : Bool) → eqb x c ≡ t → (r : Option ℕ) → index_of c xs ≡ r → (i : ℕ) → cond t (Some 0) (next r) ≡ Some i
+        → ((k : ℕ) → index_of c xs ≡ Some k → entry_at k xs ≡ Some c) → entry_at i (x ∷ xs) ≡ Some c
+    go true p r q zero e ih = ap Some (eqb-true x c p)
     go true p r q (suc i) e ih = cc
-    go false p (Index.At k) q i e ih =
+    go false p (Some k) q i e ih =
         let n : suc k ≡ i = cc in
-        subst (λ (m : ℕ). entry_at m (x ∷ xs) ≡ Entry.Char c) n (ih k q)
-    go false p Index.NoEntry q i e ih = cc
+        subst (λ (m : ℕ). entry_at m (x ∷ xs) ≡ Some c) n (ih k q)
+    go false p None q i e ih = cc
 
 -- In an ascending list, a number occurs at one index only.
-pub place_is_index : (xs : List ℕ) → ascending xs ≡ true → (c i : ℕ) → entry_at i xs ≡ Entry.Char c → index_of c xs ≡ Index.At i
+pub place_is_index : (xs : List ℕ) → ascending xs ≡ true → (c i : ℕ) → entry_at i xs ≡ Some c → index_of c xs ≡ Some i
 place_is_index xs t c i e =
-    ⊎_elim (λ h. let z : Entry.NoEntry ≡ Entry.Char c = sym (entry_out i xs h) ∙ e in cc)
+    ⊎_elim (λ h. let z : None ≡ Some c = sym (entry_out i xs h) ∙ e in cc)
     (λ h.
     let p = entry_in_lem i xs h in
     let q : get_or xs i 0 ≡ c = cc in

@@ -1,5 +1,6 @@
 -- The list of the numbers whose bits are 1 in blocks of any words. A number is in the list where its bit is 1. Its index is the rank of
 -- its block plus the number of ones below its bit.
+use Rattle.std.specs.Prelude.{Some, None, Option}
 use mathlib.Core.Path.{◌≡◌, refl, sym, ap, ap₂, ◌∙◌}
 use mathlib.Core.Logic.{◌⊎◌, inl, inr, ⊎_elim}
 use mathlib.Core.Bool.{Bool, true, false, cond, ◌&&◌}
@@ -18,36 +19,34 @@ use Rattle.base.proofs.Bits.{low_bit, next_bit, zero_one}
 use Rattle.base.proofs.Tests.{both_true, le_or_lt}
 use Rattle.emoji.specs.Blocks.{BlockRow, block_in, entry_in, no_block}
 use Rattle.emoji.specs.Tables.{index_of, next}
-use Rattle.emoji.specs.declared.VariationSequenceIndex.{VariationSequenceIndex}
-use Rattle.emoji.specs.declared.VariationSequenceIndex.TheVariants as Index
 use Rattle.emoji.specs.declared.blocks.Block.{Block}
 use Rattle.emoji.proofs.Ascent.{is_at}
 use Rattle.emoji.proofs.BlockSearch.{ascend_from}
 
 -- The index plus n.
-unfoldable pub plus : ℕ → VariationSequenceIndex → VariationSequenceIndex
-plus n (Index.At i) = Index.At (n + i)
-plus n Index.NoEntry = Index.NoEntry
+unfoldable pub plus : ℕ → Option ℕ → Option ℕ
+plus n (Some i) = Some (n + i)
+plus n None = None
 
-pub plus_zero : (r : VariationSequenceIndex) → r ≡ plus 0 r
+pub plus_zero : (r : Option ℕ) → r ≡ plus 0 r
 unfolding plus
-plus_zero (Index.At i) = ap Index.At (omega arith)
-plus_zero Index.NoEntry = refl
+plus_zero (Some i) = ap Some (omega arith)
+plus_zero None = refl
 
-next-plus : (n : ℕ) (r : VariationSequenceIndex) → next (plus n r) ≡ plus (suc n) r
+next-plus : (n : ℕ) (r : Option ℕ) → next (plus n r) ≡ plus (suc n) r
 unfolding plus next
-next-plus n (Index.At i) = ap Index.At (omega arith)
-next-plus n Index.NoEntry = refl
+next-plus n (Some i) = ap Some (omega arith)
+next-plus n None = refl
 
-plus-plus : (m n : ℕ) (r : VariationSequenceIndex) → plus m (plus n r) ≡ plus (m + n) r
+plus-plus : (m n : ℕ) (r : Option ℕ) → plus m (plus n r) ≡ plus (m + n) r
 unfolding plus
-plus-plus m n (Index.At i) = ap Index.At (omega arith)
-plus-plus m n Index.NoEntry = refl
+plus-plus m n (Some i) = ap Some (omega arith)
+plus-plus m n None = refl
 
-is_at-plus : (n : ℕ) (r : VariationSequenceIndex) → is_at (plus n r) ≡ is_at r
+is_at-plus : (n : ℕ) (r : Option ℕ) → is_at (plus n r) ≡ is_at r
 unfolding plus is_at
-is_at-plus n (Index.At i) = refl
-is_at-plus n Index.NoEntry = refl
+is_at-plus n (Some i) = refl
+is_at-plus n None = refl
 
 -- Puts a number before a list if a test is true.
 unfoldable pub keep : Bool → ℕ → List ℕ → List ℕ
@@ -82,14 +81,14 @@ outside c (suc n) a w xs h = go (eqb (w % 2) 1) (outside c n (suc a) (w / 2) xs 
     go false ih = ih
 
 -- The index of bit j among the ones of a word.
-unfoldable pub place_in_word : ℕ → ℕ → VariationSequenceIndex
-place_in_word j w = cond (one j w) (Index.At (ones (w % 2 ^ j))) Index.NoEntry
+unfoldable pub place_in_word : ℕ → ℕ → Option ℕ
+place_in_word j w = cond (one j w) (Some (ones (w % 2 ^ j))) None
 
-first-place : (w : ℕ) → place_in_word 0 w ≡ cond (eqb (w % 2) 1) (Index.At 0) Index.NoEntry
+first-place : (w : ℕ) → place_in_word 0 w ≡ cond (eqb (w % 2) 1) (Some 0) None
 unfolding place_in_word ones
 first-place w =
     let e : w % 2 ^ 0 ≡ 0 = omega arith in
-    rw (low_bit w) (ap (λ (n : ℕ). cond (eqb (w % 2) 1) (Index.At (ones n)) Index.NoEntry) e)
+    rw (low_bit w) (ap (λ (n : ℕ). cond (eqb (w % 2) 1) (Some (ones n)) None) e)
 
 ones_below : (j w : ℕ) → ones (w % 2 ^ suc j) ≡ w % 2 + ones (w / 2 % 2 ^ j)
 ones_below j w =
@@ -101,12 +100,12 @@ unfolding place_in_word plus
 later-place j w = rw (next_bit j w, ones_below j w) (go (one j (w / 2)))
   where
     go : (t : Bool)
-        → cond t (Index.At (w % 2 + ones (w / 2 % 2 ^ j))) Index.NoEntry
-        ≡ plus (w % 2) (cond t (Index.At (ones (w / 2 % 2 ^ j))) Index.NoEntry)
+        → cond t (Some (w % 2 + ones (w / 2 % 2 ^ j))) None
+        ≡ plus (w % 2) (cond t (Some (ones (w / 2 % 2 ^ j))) None)
     go true = refl
     go false = refl
 
-no_place : (j : ℕ) → place_in_word j 0 ≡ Index.NoEntry
+no_place : (j : ℕ) → place_in_word j 0 ≡ None
 unfolding place_in_word
 no_place j = rw (zero_one j)
 
@@ -114,22 +113,22 @@ is_at-place : (j w : ℕ) → is_at (place_in_word j w) ≡ one j w
 unfolding place_in_word is_at
 is_at-place j w = go (one j w)
   where
-    go : (t : Bool) → is_at (cond t (Index.At (ones (w % 2 ^ j))) Index.NoEntry) ≡ t
+    go : (t : Bool) → is_at (cond t (Some (ones (w % 2 ^ j))) None) ≡ t
     go true = refl
     go false = refl
 
 -- The index of number j of the n numbers, if the rest of the list does not contain it.
-inside : (j n a w c : ℕ) (xs : List ℕ) → c ≡ a + j → j < n → index_of c xs ≡ Index.NoEntry
+inside : (j n a w c : ℕ) (xs : List ℕ) → c ≡ a + j → j < n → index_of c xs ≡ None
     → index_of c (ones_from a n w ++ xs) ≡ place_in_word j w
 unfolding ones_from keep index_of plus
 inside j zero a w c xs q h e = absurd (not-suc-le-zero h)
 inside zero (suc n) a w c xs q h e = go (eqb (w % 2) 1) refl
   where
     go : (t : Bool) → eqb (w % 2) 1 ≡ t → index_of c (keep t a (ones_from (suc a) n (w / 2)) ++ xs) ≡ place_in_word 0 w
-    go true p = rw (eq-eqb a c (omega arith)) (sym (first-place w ∙ ap (λ (t : Bool). cond t (Index.At 0) Index.NoEntry) p))
+    go true p = rw (eq-eqb a c (omega arith)) (sym (first-place w ∙ ap (λ (t : Bool). cond t (Some 0) None) p))
     go false p =
         outside c n (suc a) (w / 2) xs (inl (omega arith)) ∙ ap (plus (length (ones_from (suc a) n (w / 2)))) e
-        ∙ sym (first-place w ∙ ap (λ (t : Bool). cond t (Index.At 0) Index.NoEntry) p)
+        ∙ sym (first-place w ∙ ap (λ (t : Bool). cond t (Some 0) None) p)
 inside (suc j) (suc n) a w c xs q h e =
     go (eqb (w % 2) 1) refl (inside j n (suc a) (w / 2) c xs (omega arith) (le_of_suc-le-suc h) e)
   where
@@ -158,7 +157,7 @@ module _ (word : Block → ℕ) (c : ℕ) where
       (⊎_elim inr (λ h. ⊎_elim (λ l. absurd (n (omega arith))) inl (le_or_lt (64 * r.key) c)) (le_or_lt (64 * r.key + 64) c))
 
   -- Blocks after the block of c do not contain c.
-  not_after : (n : ℕ) (rs : List BlockRow) → ascend_from n rs ≡ true → c / 64 < n → index_of c (ones_of word rs) ≡ Index.NoEntry
+  not_after : (n : ℕ) (rs : List BlockRow) → ascend_from n rs ≡ true → c / 64 < n → index_of c (ones_of word rs) ≡ None
   unfolding ascend_from ones_of index_of plus
   not_after n [] t h = refl
   not_after n (r ∷ rs) t h =
@@ -201,8 +200,8 @@ unfolding plus place_in_word entry_in
 rank_place j b = go (one j b.entries)
   where
     go : (t : Bool)
-        → plus b.rank (cond t (Index.At (ones (b.entries % 2 ^ j))) Index.NoEntry)
-        ≡ cond t (Index.At (b.rank + ones (b.entries % 2 ^ j))) Index.NoEntry
+        → plus b.rank (cond t (Some (ones (b.entries % 2 ^ j))) None)
+        ≡ cond t (Some (b.rank + ones (b.entries % 2 ^ j))) None
     go true = refl
     go false = refl
 

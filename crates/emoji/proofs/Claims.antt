@@ -1,4 +1,5 @@
 -- The proof of each statement of specs/Theorems.antt.
+use Rattle.std.specs.Prelude.{Some, None, Option}
 use mathlib.Core.Path.{◌≡◌, refl, sym, ap, ◌∙◌, subst}
 use mathlib.Core.Logic.{⊎_elim}
 use mathlib.Core.Bool.{Bool, true, false, cond, not, true≢false}
@@ -22,9 +23,6 @@ use Rattle.emoji.specs.Unicode.{
   variation_sequence_index,
 }
 use Rattle.emoji.specs.Presentation.{as_selector, from_selector, is_selector}
-use Rattle.emoji.specs.declared.VariationSequenceIndex.{VariationSequenceIndex}
-use Rattle.emoji.specs.declared.VariationSequenceIndex.TheVariants as Index
-use Rattle.emoji.specs.declared.presentation.FromSelector.TheVariants.{NoSelector, Selector}
 use Rattle.emoji.specs.declared.presentation.Presentation.{Presentation}
 use Rattle.emoji.specs.declared.presentation.Presentation.TheVariants.{Emoji, Text}
 use Rattle.emoji.specs.Theorems.{
@@ -124,25 +122,25 @@ no_index_no_entry c = (
   λ m. no_place (index_of c variation_entries) (sym (member_index c variation_entries) ∙ m),
 )
   where
-    no_place : (r : VariationSequenceIndex) → is_at r ≡ false → r ≡ Index.NoEntry
-    no_place (Index.At i) e = cc
-    no_place Index.NoEntry e = refl
+    no_place : (r : Option ℕ) → is_at r ≡ false → r ≡ None
+    no_place (Some i) e = cc
+    no_place None e = refl
 
 pub selectors_are_presentations : SelectorsArePresentations
 unfolding SelectorsArePresentations as_selector from_selector
 selectors_are_presentations = (back, forth)
   where
-    back : (p : Presentation) → from_selector (as_selector p) ≡ Selector p
+    back : (p : Presentation) → from_selector (as_selector p) ≡ Some p
     back Text = refl
     back Emoji = refl
 
     go : (c : ℕ) (p : Presentation) (s t : Bool) → eqb c 0xFE0E ≡ s → eqb c 0xFE0F ≡ t
-        → cond s (Selector Text) (cond t (Selector Emoji) NoSelector) ≡ Selector p → c ≡ as_selector p
+        → cond s (Some Text) (cond t (Some Emoji) None) ≡ Some p → c ≡ as_selector p
     go c Text true t e f q = eqb-true c 0xFE0E e
     go c Emoji true t e f q = cc
     go c Text false true e f q = cc
     go c Emoji false true e f q = eqb-true c 0xFE0F f
     go c p false false e f q = cc
 
-    forth : (c : ℕ) (p : Presentation) → from_selector c ≡ Selector p → c ≡ as_selector p
+    forth : (c : ℕ) (p : Presentation) → from_selector c ≡ Some p → c ≡ as_selector p
     forth c p q = go c p (eqb c 0xFE0E) (eqb c 0xFE0F) refl refl q

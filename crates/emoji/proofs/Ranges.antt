@@ -1,16 +1,20 @@
 -- Ranges that ascend and never touch. The first number of range k has the index 2 k in the list, its last number 2 k + 1.
+-- Ranges that ascend and never touch. The first number of range k has the index 2 k in the list, its last number 2 k + 1.
 use mathlib.Core.Path.{◌≡◌, refl, sym, ap, subst}
-use mathlib.Core.Logic.{◌⊎◌, inl, inr, ⊎_elim}
-use mathlib.Core.Bool.{true, false, ◌&&◌, and-false, or-true}
+use mathlib.Core.Bool.{true, ◌&&◌, and-false, or-true}
 use mathlib.Core.List.{List, [], ◌∷◌}
-use Prim.Native.Nat.{ℕ, zero, suc, ◌+◌, ◌*◌, ◌/◌, ◌<◌, ◌≤◌}
+use Prim.Native.Nat.{ℕ, zero, suc, ◌+◌, ◌*◌, ◌/◌, ◌%◌, ◌<◌, ◌≤◌, zero-le, suc-le-suc}
 use native.Mathlib.Nat.{le_of_suc-le-suc, not-suc-le-zero}
 use native.Mathlib.Omega.{arith}
-use lib.Dec.{leb}
+use lib.Dec.{eqb, leb}
 use lib.ListN.{length, get_or}
 use borrow.Author.Tests.{leb-true, le-leb, lt-leb}
+use Rattle.std.proofs.Common.{nat_cmp}
+use Rattle.std.proofs.lemmas.List.Sorted.{searched}
+use Rattle.std.specs.List.Sorted.{IsBinarySearchResult}
+use Rattle.std.specs.Prelude.{Ok, Err}
 use Rattle.emoji.specs.Tables.{in_ranges, ranges_apart, ranges_apart_from}
-use Rattle.base.proofs.Tests.{both_true, le_or_lt}
+use Rattle.base.proofs.Tests.{both_true}
 
 -- The first and the last number of range k.
 abbrev pub first : List ℕ → ℕ → ℕ
@@ -80,39 +84,79 @@ ranges_lt low (a ∷ e ∷ rs) t (suc j) (suc k) h l =
     let r = ranges_lt (suc (suc e)) rs (head low a e rs t).rest j k (le_of_suc-le-suc h) (omega arith) in
     omega (arith, first_suc a e rs k, last_suc a e rs j)
 
-module _ (rs : List ℕ) (t : ranges_apart rs ≡ true) (c j k : ℕ) (h : j ≤ k) (l : k < length rs / 2) where
-  -- If a range ends before c, the ranges before it do.
-  pub ends_before : last rs k < c → last rs j < c
-  unfolding ranges_apart
-  ends_before p =
-      ⊎_elim (λ (q : k ≤ j). let e : j ≡ k = omega arith in rw e p)
-      (λ (q : j < k). omega (arith, ranges_lt 0 rs t j k q l, range_ordered 0 rs t k l)) (le_or_lt k j)
+-- A number of the list is at least `low`, and none is above a later one.
+from_low : (low : ℕ) (rs : List ℕ) → ranges_apart_from low rs ≡ true → (k : ℕ) → k < length rs → low ≤ get_or rs k 0
+from_low low [] t k l = absurd (not-suc-le-zero l)
+from_low low (a ∷ []) t k l = absurd (odd low a t)
+from_low low (a ∷ e ∷ rs) t zero l = (head low a e rs t).from
+from_low low (a ∷ e ∷ rs) t (suc zero) l = let h = head low a e rs t in omega (arith, h.from, h.ordered)
+from_low low (a ∷ e ∷ rs) t (suc (suc k)) l =
+    let h = head low a e rs t in
+    omega (arith, h.from, h.ordered, from_low (suc (suc e)) rs h.rest k (le_of_suc-le-suc (le_of_suc-le-suc l)))
 
-  -- If a range starts after c, the ranges after it do.
-  pub starts_after : c < first rs j → c < first rs k
-  unfolding ranges_apart
-  starts_after p =
-      ⊎_elim (λ (q : k ≤ j). let e : j ≡ k = omega arith in rw e at p)
-      (λ (q : j < k). omega (arith, ranges_lt 0 rs t j k q l, range_ordered 0 rs t j (omega arith))) (le_or_lt k j)
+pub ends_rise : (low : ℕ) (rs : List ℕ) → ranges_apart_from low rs ≡ true → (i j : ℕ) → i ≤ j → j < length rs
+    → get_or rs i 0 ≤ get_or rs j 0
+ends_rise low [] t i j h l = absurd (not-suc-le-zero l)
+ends_rise low (a ∷ []) t i j h l = absurd (odd low a t)
+ends_rise low (a ∷ e ∷ rs) t zero zero h l = omega arith
+ends_rise low (a ∷ e ∷ rs) t zero (suc zero) h l = (head low a e rs t).ordered
+ends_rise low (a ∷ e ∷ rs) t zero (suc (suc j)) h l =
+    let d = head low a e rs t in
+    omega (arith, d.ordered, from_low (suc (suc e)) rs d.rest j (le_of_suc-le-suc (le_of_suc-le-suc l)))
+ends_rise low (a ∷ e ∷ rs) t (suc i) zero h l = absurd (not-suc-le-zero h)
+ends_rise low (a ∷ e ∷ rs) t (suc zero) (suc zero) h l = omega arith
+ends_rise low (a ∷ e ∷ rs) t (suc zero) (suc (suc j)) h l =
+    let d = head low a e rs t in
+    omega (arith, from_low (suc (suc e)) rs d.rest j (le_of_suc-le-suc (le_of_suc-le-suc l)))
+ends_rise low (a ∷ e ∷ rs) t (suc (suc i)) (suc zero) h l = absurd (not-suc-le-zero (le_of_suc-le-suc h))
+ends_rise low (a ∷ e ∷ rs) t (suc (suc i)) (suc (suc j)) h l =
+    ends_rise (suc (suc e)) rs (head low a e rs t).rest i j (le_of_suc-le-suc (le_of_suc-le-suc h)) (le_of_suc-le-suc (le_of_suc-le-suc l))
 
--- A number that lies in no range.
-pub in_no_range : (c : ℕ) (rs : List ℕ) → ((k : ℕ) → k < length rs / 2 → (c < first rs k) ⊎ (last rs k < c)) → in_ranges c rs ≡ false
+-- A number of the list lies in a range.
+pub end_in : (low c : ℕ) (rs : List ℕ) → ranges_apart_from low rs ≡ true → (i : ℕ) → i < length rs → get_or rs i 0 ≡ c
+    → in_ranges c rs ≡ true
 unfolding in_ranges
-in_no_range c [] h = refl
-in_no_range c (a ∷ []) h = refl
-in_no_range c (a ∷ e ∷ rs) h =
-    let rest : in_ranges c rs ≡ false =
-    in_no_range c rs (λ k l. ⊎_elim (λ p. inl (omega (arith, first_suc a e rs k))) (λ p. inr (omega (arith, last_suc a e rs k)))
-    (h (suc k) (omega arith))) in
-    ⊎_elim (λ (p : c < a). simp (lt-leb a c p, rest))
-    (λ (p : last (a ∷ e ∷ rs) 0 < c). simp (lt-leb c e (omega (arith, last_zero a e rs)), rest, and-false))
-    (h zero (omega arith))
+end_in low c [] t i l q = absurd (not-suc-le-zero l)
+end_in low c (a ∷ []) t i l q = absurd (odd low a t)
+end_in low c (a ∷ e ∷ rs) t zero l q =
+    let h = head low a e rs t in
+    simp (le-leb a c (omega (arith, q)), le-leb c e (omega (arith, q, h.ordered)))
+end_in low c (a ∷ e ∷ rs) t (suc zero) l q =
+    let h = head low a e rs t in
+    simp (le-leb a c (omega (arith, q, h.ordered)), le-leb c e (omega (arith, q)))
+end_in low c (a ∷ e ∷ rs) t (suc (suc i)) l q =
+    simp (end_in (suc (suc e)) c rs (head low a e rs t).rest i (le_of_suc-le-suc (le_of_suc-le-suc l)) q, or-true)
 
--- A number that lies in range k.
-pub in_range : (c : ℕ) (rs : List ℕ) (k : ℕ) → k < length rs / 2 → first rs k ≤ c → c ≤ last rs k → in_ranges c rs ≡ true
+-- A number that is not of the list lies in a range exactly if the first number above it stands at an odd place.
+pub place_in : (low c : ℕ) (rs : List ℕ) → ranges_apart_from low rs ≡ true → (i : ℕ) → i ≤ length rs
+    → ((k : ℕ) → k < i → get_or rs k 0 < c) → ((k : ℕ) → i ≤ k → k < length rs → c < get_or rs k 0)
+    → in_ranges c rs ≡ eqb (i % 2) 1
 unfolding in_ranges
-in_range c [] k l p q = absurd (omega arith)
-in_range c (a ∷ []) k l p q = absurd (omega arith)
-in_range c (a ∷ e ∷ rs) zero l p q = simp (le-leb a c p, le-leb c e (omega (arith, last_zero a e rs)))
-in_range c (a ∷ e ∷ rs) (suc k) l p q =
-    simp (in_range c rs k (omega arith) (omega (arith, first_suc a e rs k)) (omega (arith, last_suc a e rs k)), or-true)
+place_in low c [] t zero l f g = refl
+place_in low c [] t (suc i) l f g = absurd (not-suc-le-zero l)
+place_in low c (a ∷ []) t i l f g = absurd (odd low a t)
+place_in low c (a ∷ e ∷ rs) t zero l f g =
+    let r = place_in (suc (suc e)) c rs (head low a e rs t).rest zero zero-le (λ k h. absurd (not-suc-le-zero h))
+    (λ k h m. g (suc (suc k)) zero-le (suc-le-suc (suc-le-suc m))) in
+    simp (lt-leb a c (g zero zero-le (suc-le-suc zero-le)), r)
+place_in low c (a ∷ e ∷ rs) t (suc zero) l f g =
+    let x : a < c = f zero (suc-le-suc zero-le) in
+    let y : c < e = g 1 (suc-le-suc zero-le) (suc-le-suc (suc-le-suc zero-le)) in
+    simp (le-leb a c (omega arith), le-leb c e (omega arith))
+place_in low c (a ∷ e ∷ rs) t (suc (suc i)) l f g =
+    let r = place_in (suc (suc e)) c rs (head low a e rs t).rest i (le_of_suc-le-suc (le_of_suc-le-suc l))
+    (λ k h. f (suc (suc k)) (suc-le-suc (suc-le-suc h)))
+    (λ k h m. g (suc (suc k)) (suc-le-suc (suc-le-suc h)) (suc-le-suc (suc-le-suc m))) in
+    let p : suc (suc i) % 2 ≡ i % 2 = omega arith in
+    let x : e < c = f 1 (suc-le-suc (suc-le-suc zero-le)) in
+    simp (lt-leb c e x, and-false, r, p)
+
+-- What a binary search among the ends of ranges answers tells whether the number lies in a range.
+module _ (c : ℕ) (rs : List ℕ) (t : ranges_apart rs ≡ true) (i : ℕ) where
+  pub found_end : IsBinarySearchResult (λ y. nat_cmp y c) rs (Ok i) → true ≡ in_ranges c rs
+  unfolding ranges_apart
+  found_end h = let f = searched rs c (Ok i) h (ends_rise 0 rs t) in sym (end_in 0 c rs t i f.0 f.1)
+
+  pub found_place : IsBinarySearchResult (λ y. nat_cmp y c) rs (Err i) → eqb (i % 2) 1 ≡ in_ranges c rs
+  unfolding ranges_apart
+  found_place h = let f = searched rs c (Err i) h (ends_rise 0 rs t) in sym (place_in 0 c rs t i f.0 f.1 f.2)

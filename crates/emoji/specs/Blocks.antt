@@ -1,11 +1,9 @@
 -- Contracts of helper functions (src/blocks.rt, and `entry_in` of src/lib.rt); no public contract rests on this file.
 -- Blocks of 64 code points. A block has the bits of its emoji, the bits of its variation entries, and the number of entries before it.
 -- Document 01 has no blocks: the fast forms use them, and proofs/BlockTables.antt proves that they hold document 01's tables.
-use Rattle.std.specs.Prelude.{cond, List, [], ◌∷◌, ℕ, ◌+◌, ◌-◌, ◌%◌, ◌^◌, eqb}
+use Rattle.std.specs.Prelude.{cond, List, [], ◌∷◌, ℕ, ◌+◌, ◌-◌, ◌%◌, ◌^◌, eqb, Some, None, Option}
 use Rattle.std.specs.Int.Count.{ones}
 use Rattle.base.specs.Bits.{one}
-use Rattle.emoji.specs.declared.VariationSequenceIndex.{VariationSequenceIndex}
-use Rattle.emoji.specs.declared.VariationSequenceIndex.TheVariants as Index
 use Rattle.emoji.specs.declared.blocks.Block.{Block}
 
 -- A block and its number. Block k has the 64 code points from 64 k on.
@@ -32,5 +30,5 @@ moved n (r ∷ rs) = record { key = r.key - n; block = r.block } ∷ moved n rs
 
 -- The index of character j of a block in the list of the variation entries: the number of entries before the block plus the number of
 -- the block's entries below j.
-unfoldable pub entry_in : ℕ → Block → VariationSequenceIndex
-entry_in j b = cond (one j b.entries) (Index.At (b.rank + ones (b.entries % 2 ^ j))) Index.NoEntry
+unfoldable pub entry_in : ℕ → Block → Option ℕ
+entry_in j b = cond (one j b.entries) (Some (b.rank + ones (b.entries % 2 ^ j))) None

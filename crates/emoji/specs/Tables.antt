@@ -1,11 +1,7 @@
 -- Tables as lists of any length: membership, the index of a number, and the tests that a table is in order. A list of ranges has the
 -- first and the last number of each range in turn.
-use Rattle.std.specs.Prelude.{Bool, true, false, cond, ◌&&◌, ◌||◌, List, [], ◌∷◌, ℕ, zero, suc, eqb, leb, ltb}
+use Rattle.std.specs.Prelude.{Bool, true, false, cond, ◌&&◌, ◌||◌, List, [], ◌∷◌, ℕ, zero, suc, eqb, leb, ltb, Some, None, Option}
 use Rattle.base.specs.Ranges.{within}
-use Rattle.emoji.specs.declared.VariationEntry.{VariationEntry}
-use Rattle.emoji.specs.declared.VariationEntry.TheVariants as Entry
-use Rattle.emoji.specs.declared.VariationSequenceIndex.{VariationSequenceIndex}
-use Rattle.emoji.specs.declared.VariationSequenceIndex.TheVariants as Index
 
 -- The list contains the number.
 unfoldable pub member : ℕ → List ℕ → Bool
@@ -13,19 +9,19 @@ member c [] = false
 member c (x ∷ xs) = eqb x c || member c xs
 
 -- The index plus 1.
-unfoldable pub next : VariationSequenceIndex → VariationSequenceIndex
-next (Index.At i) = Index.At (suc i)
-next Index.NoEntry = Index.NoEntry
+unfoldable pub next : Option ℕ → Option ℕ
+next (Some i) = Some (suc i)
+next None = None
 
 -- The index of the first occurrence of a number in a list.
-unfoldable pub index_of : ℕ → List ℕ → VariationSequenceIndex
-index_of c [] = Index.NoEntry
-index_of c (x ∷ xs) = cond (eqb x c) (Index.At 0) (next (index_of c xs))
+unfoldable pub index_of : ℕ → List ℕ → Option ℕ
+index_of c [] = None
+index_of c (x ∷ xs) = cond (eqb x c) (Some 0) (next (index_of c xs))
 
 -- The number at an index of a list.
-unfoldable pub entry_at : ℕ → List ℕ → VariationEntry
-entry_at i [] = Entry.NoEntry
-entry_at zero (x ∷ xs) = Entry.Char x
+unfoldable pub entry_at : ℕ → List ℕ → Option ℕ
+entry_at i [] = None
+entry_at zero (x ∷ xs) = Some x
 entry_at (suc i) (x ∷ xs) = entry_at i xs
 
 -- The number lies in one of the ranges.

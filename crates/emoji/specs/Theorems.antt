@@ -1,6 +1,6 @@
 -- The sentences of document 01, "Character", about the tables, each as a statement about every number; and the meaning of the two tests
 -- of order, for tables of any length. The proofs are in proofs/Claims.antt.
-use Rattle.std.specs.Prelude.{◌≡◌, ◌↔◌, true, false, List, ℕ, suc, ◌+◌, ◌*◌, ◌/◌, ◌<◌, ◌≤◌, get_or, length}
+use Rattle.std.specs.Prelude.{◌≡◌, ◌↔◌, true, false, List, ℕ, suc, ◌+◌, ◌*◌, ◌/◌, ◌<◌, ◌≤◌, get_or, length, Some, None}
 use Rattle.emoji.specs.UnicodeData.{
   emoji_modifier_bases,
   emoji_modifiers,
@@ -20,9 +20,6 @@ use Rattle.emoji.specs.Unicode.{
   variation_sequence_index,
 }
 use Rattle.emoji.specs.Presentation.{as_selector, from_selector, is_selector}
-use Rattle.emoji.specs.declared.VariationEntry.TheVariants as Entry
-use Rattle.emoji.specs.declared.VariationSequenceIndex.TheVariants as Index
-use Rattle.emoji.specs.declared.presentation.FromSelector.TheVariants.{Selector}
 use Rattle.emoji.specs.declared.presentation.Presentation.{Presentation}
 
 -- "Every table is strictly ascending and its ranges never touch or overlap."
@@ -79,13 +76,13 @@ VariationEntriesAreEmoji = (c : ℕ) → has_variation_sequence c ≡ true → i
 -- The index of a character is the only index whose entry is the character. A character has no index exactly when it is no variation
 -- entry.
 unfoldable pub IndexIsPlace : Type 0
-IndexIsPlace = (c i : ℕ) → (variation_sequence_index c ≡ Index.At i) ↔ (variation_entry i ≡ Entry.Char c)
+IndexIsPlace = (c i : ℕ) → (variation_sequence_index c ≡ Some i) ↔ (variation_entry i ≡ Some c)
 
 unfoldable pub NoIndexNoEntry : Type 0
-NoIndexNoEntry = (c : ℕ) → (variation_sequence_index c ≡ Index.NoEntry) ↔ (has_variation_sequence c ≡ false)
+NoIndexNoEntry = (c : ℕ) → (variation_sequence_index c ≡ None) ↔ (has_variation_sequence c ≡ false)
 
 -- `as_selector` and `from_selector` are inverse: each presentation has one selector, and no other character requests it.
 unfoldable pub SelectorsArePresentations : Type 0
 SelectorsArePresentations =
-    ((p : Presentation) → from_selector (as_selector p) ≡ Selector p)
-    × ((c : ℕ) (p : Presentation) → from_selector c ≡ Selector p → c ≡ as_selector p)
+    ((p : Presentation) → from_selector (as_selector p) ≡ Some p)
+    × ((c : ℕ) (p : Presentation) → from_selector c ≡ Some p → c ≡ as_selector p)

@@ -1,5 +1,5 @@
 -- The predicates of unicode.rs, for every number: document 01, "Character".
-use Rattle.std.specs.Prelude.{Bool, ◌&&◌, not, ℕ}
+use Rattle.std.specs.Prelude.{Bool, ◌&&◌, not, ℕ, Option}
 use Rattle.base.specs.Ranges.{within}
 use Rattle.emoji.specs.Tables.{entry_at, in_ranges, index_of, member}
 use Rattle.emoji.specs.UnicodeData.{
@@ -10,8 +10,6 @@ use Rattle.emoji.specs.UnicodeData.{
   ri_ranges,
   variation_entries,
 }
-use Rattle.emoji.specs.declared.VariationEntry.{VariationEntry}
-use Rattle.emoji.specs.declared.VariationSequenceIndex.{VariationSequenceIndex}
 
 -- "Tags: E0020 to E007F"
 unfoldable pub is_tag : ℕ → Bool
@@ -47,8 +45,8 @@ unfoldable pub is_text_default : ℕ → Bool
 is_text_default c = has_variation_sequence c && not (is_emoji_presentation c)
 
 -- The index of a character in the list of the variation entries, and the entry at an index: "entry i".
-unfoldable pub variation_sequence_index : ℕ → VariationSequenceIndex
+unfoldable pub variation_sequence_index : ℕ → Option ℕ
 variation_sequence_index c = index_of c variation_entries
 
-unfoldable pub variation_entry : ℕ → VariationEntry
+unfoldable pub variation_entry : ℕ → Option ℕ
 variation_entry i = entry_at i variation_entries

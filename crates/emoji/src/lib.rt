@@ -4,7 +4,7 @@
 // in order. One computed test for each table shows it (proofs/InOrder.antt).
 // The scanner tests every character of a text. For these tests there are fast forms with the same contracts. They look
 // up the bits of the character's block of 64 code points (blocks.rt), or compare with the first and the last number of
-// the table.
+// the table. No form takes the other's place: they are two ways to one answer, and published_data compares the two.
 #![tactic(auto)]
 
 mod blocks;
@@ -15,7 +15,7 @@ ghost use Rattle.std.specs.Prelude.{◌≡◌, true, ◌%◌, ◌^◌, ◌≤◌
 ghost use Rattle.std.specs.Int.Count.{ones};
 ghost use Rattle.base.specs.Ranges.{within};
 ghost use Rattle.emoji.specs.Blocks.{entry_in};
-ghost use Rattle.emoji.specs.Tables.{ascending, in_ranges, index_of, member, ranges_apart};
+ghost use Rattle.emoji.specs.Tables.{ascending, entry_at, in_ranges, index_of, member, ranges_apart};
 ghost use Rattle.emoji.specs.Unicode.{
   has_variation_sequence,
   is_emoji,
@@ -34,7 +34,7 @@ ghost use Rattle.emoji.specs.UnicodeData.{variation_entries};
 use blocks::Block;
 use unicode_data::{
     EMOJI_MODIFIER_BASES, EMOJI_MODIFIERS, EMOJI_PRESENTATION_RANGES, EMOJI_RANGES, RI_RANGES,
-    VARIATION_ENTRIES, VARIATION_ENTRY_COUNT,
+    VARIATION_ENTRIES,
 };
 
 // Unicode variation selector 15.
@@ -48,108 +48,72 @@ pub const COMBINING_ENCLOSING_KEYCAP: u32 = 0x20E3;
 // The zero-width joiner. Document 01 calls it the link.
 pub const ZWJ: u32 = 0x200D;
 
-// The index of a character in the list of the variation entries.
-#[derive(Clone, Copy)]
-pub enum VariationSequenceIndex {
-    At(usize),
-    NoEntry,
-}
-
-// The variation entry at an index.
-#[derive(Clone, Copy)]
-pub enum VariationEntry {
-    Char(u32),
-    NoEntry,
-}
-
 // The data that a block has for a character: whether it is emoji, and its index in the list of the variation entries.
-#[derive(Clone, Copy)]
+#[derive(Clone, Copy, Debug, PartialEq, Eq)]
 pub struct EmojiData {
     pub is_emoji: bool,
-    pub index: VariationSequenceIndex,
+    pub index: Option<usize>,
 }
 
 // Returns the index of a number in an ascending table.
-fn binary_search(table: &[u32], ch: u32) -> VariationSequenceIndex
+fn binary_search(table: &[u32], ch: u32) -> Option<usize>
     requires { ascending table.now ≡ true }
     ensures { result ≡ index_of ch table.now }
 {
-    let mut lo: usize = 0;
-    let mut hi = table.len();
-    while lo < hi {
-        let mid = lo + (hi - lo) / 2;
-        let current = table[mid];
-        if current == ch {
-            return VariationSequenceIndex::At(mid);
-        }
-        if current < ch {
-            lo = mid + 1;
-        } else {
-            hi = mid;
-        }
-    }
-    VariationSequenceIndex::NoEntry
+    table.binary_search(&ch).ok()
 }
 
 // Tests whether an ascending table contains a number.
+#[tactic(auto, using(crate::proofs::Ascent::member_index), unfolding(crate::proofs::Ascent::is_at))]
 fn in_char_table(table: &[u32], ch: u32) -> bool
     requires { ascending table.now ≡ true }
     ensures { result ≡ member ch table.now }
 {
-    match binary_search(table, ch) {
-        VariationSequenceIndex::At(_) => true,
-        VariationSequenceIndex::NoEntry => false,
-    }
+    binary_search(table, ch).is_some()
 }
 
-// Tests whether a number lies in one of the ranges of a table.
+// Returns the number at an index of a table.
+fn entry_at(table: &[u32], index: usize) -> Option<u32>
+    ensures { result ≡ entry_at index table.now }
+{
+    table.get(index).copied()
+}
+
+// Tests whether a number lies in one of the ranges of a table. The table has the first and the last number of each range
+// in turn, so the first number above `ch` is a last number exactly if it stands at an odd place.
 fn in_ranges(ranges: &[u32], ch: u32) -> bool
     requires { ranges_apart ranges.now ≡ true }
     ensures { result ≡ in_ranges ch ranges.now }
 {
-    let mut lo: usize = 0;
-    let mut hi = ranges.len() / 2;
-    while lo < hi {
-        let mid = lo + (hi - lo) / 2;
-        if ch < ranges[2 * mid] {
-            hi = mid;
-        } else {
-            if ranges[2 * mid + 1] < ch {
-                lo = mid + 1;
-            } else {
-                return true;
-            }
-        }
+    match ranges.binary_search(&ch) {
+        Ok(_) => true,
+        Err(place) => place % 2 == 1,
     }
-    false
 }
 
 // Tests whether a number is at least `first` and at most `last`.
 fn is_within(first: u32, last: u32, ch: u32) -> bool
     ensures { result ≡ within first last ch }
 {
-    if ch < first {
-        return false;
-    }
-    ch <= last
+    (first..=last).contains(&ch)
 }
 
 // Counts the ones of a word below bit i mod 64.
 fn ones_below(w: u64, i: u32) -> u32
     ensures { (result ≡ ones (w % 2 ^ (i % 64))) × (result ≤ 64) }
 {
-    u64::count_ones(w % (1u64 << (i % 64)))
+    (w % (1 << (i % 64))).count_ones()
 }
 
 // Returns the index of a character in the list of the variation entries, from the character's block.
-fn entry_in(block: Block, ch: u32) -> VariationSequenceIndex
+fn entry_in(block: Block, ch: u32) -> Option<usize>
     ensures { result ≡ entry_in (ch % 64) block }
 {
     let entries = block.entries;
     if base::has_bit(entries, ch as usize) {
-        VariationSequenceIndex::At(block.rank as usize + ones_below(entries, ch) as usize)
+        Some(block.rank as usize + ones_below(entries, ch) as usize)
     } else {
-        VariationSequenceIndex::NoEntry
+        None
     }
 }
 
@@ -161,28 +125,21 @@ pub fn is_tag(ch: u32) -> bool
 }
 
 // Returns the variation entry at an index.
-pub fn variation_entry(index: usize) -> VariationEntry
+pub fn variation_entry(index: usize) -> Option<u32>
     ensures { result ≡ variation_entry index }
 {
-    if index < VARIATION_ENTRY_COUNT {
-        VariationEntry::Char(VARIATION_ENTRIES[index])
-    } else {
-        VariationEntry::NoEntry
-    }
+    entry_at(&VARIATION_ENTRIES, index)
 }
 
 // Returns the character of the variation entry at an index, or 0 if there is none.
 pub fn variation_char(index: usize) -> u32
     ensures { result ≡ get_or variation_entries index 0 }
 {
-    if VARIATION_ENTRY_COUNT <= index {
-        return 0;
-    }
-    VARIATION_ENTRIES[index]
+    variation_entry(index).unwrap_or(0)
 }
 
 // Returns the index of a character in the list of the variation entries.
-pub fn variation_sequence_index(ch: u32) -> VariationSequenceIndex
+pub fn variation_sequence_index(ch: u32) -> Option<usize>
     ensures { result ≡ variation_sequence_index ch }
 {
     binary_search(&VARIATION_ENTRIES, ch)
@@ -203,23 +160,19 @@ pub fn is_emoji_presentation(ch: u32) -> bool
 }
 
 // Tests whether a character is a variation entry that defaults to text presentation.
+#[tactic(auto, unfolding(crate::specs::Unicode::is_text_default))]
 pub fn is_text_default(ch: u32) -> bool
     ensures { result ≡ is_text_default ch }
 {
-    if has_variation_sequence(ch) {
-        return !is_emoji_presentation(ch);
-    }
-    false
+    has_variation_sequence(ch) && !is_emoji_presentation(ch)
 }
 
 // Tests whether a character is a variation entry that defaults to emoji presentation.
+#[tactic(auto, unfolding(crate::specs::Unicode::is_emoji_default))]
 pub fn is_emoji_default(ch: u32) -> bool
     ensures { result ≡ is_emoji_default ch }
 {
-    if has_variation_sequence(ch) {
-        return is_emoji_presentation(ch);
-    }
-    false
+    has_variation_sequence(ch) && is_emoji_presentation(ch)
 }
 
 // Tests whether a character has the property Emoji_Modifier.
@@ -262,7 +215,7 @@ pub fn emoji_data(ch: u32) -> EmojiData
 }
 
 // The fast form of `variation_sequence_index`: a lookup of the character's block.
-pub fn variation_sequence_index_by_block(ch: u32) -> VariationSequenceIndex
+pub fn variation_sequence_index_by_block(ch: u32) -> Option<usize>
     ensures { result ≡ variation_sequence_index ch }
 {
     entry_in(blocks::block_of(ch / 64), ch)
@@ -277,13 +230,11 @@ pub fn has_variation_sequence_by_block(ch: u32) -> bool
 }
 
 // The fast form of `is_emoji_default`: a lookup of the character's block, and a search for entries only.
+#[tactic(auto, unfolding(crate::specs::Unicode::is_emoji_default))]
 pub fn is_emoji_default_by_block(ch: u32) -> bool
     ensures { result ≡ is_emoji_default ch }
 {
-    if has_variation_sequence_by_block(ch) {
-        return is_emoji_presentation(ch);
-    }
-    false
+    has_variation_sequence_by_block(ch) && is_emoji_presentation(ch)
 }
 
 // The fast form of `is_emoji_modifier`: a comparison with the first and the last modifier.

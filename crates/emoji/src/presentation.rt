@@ -1,25 +1,19 @@
 // The presentation that a selector requests: presentation.rs of the crate evfmt; document 01, "Character": FE0E is
 // Text, FE0F is Emoji.
-ghost use Rattle.std.specs.Prelude.{◌≡◌, ◌↔◌, true};
+ghost use Rattle.std.specs.Prelude.{◌≡◌};
 ghost use Rattle.emoji.specs.Presentation.{as_selector, from_selector};
 
 use crate::{EMOJI_PRESENTATION_SELECTOR, TEXT_PRESENTATION_SELECTOR};
 
-#[derive(Clone, Copy)]
+#[derive(Clone, Copy, Debug, PartialEq, Eq)]
 pub enum Presentation {
     Text,
     Emoji,
 }
 
-// The presentation that a character requests, if it is a selector.
-#[derive(Clone, Copy)]
-pub enum FromSelector {
-    Selector(Presentation),
-    NoSelector,
-}
-
 impl Presentation {
     // Returns the selector that requests this presentation.
+    #[tactic(auto, unfolding(crate::specs::Presentation::as_selector))]
     pub fn as_selector(self) -> u32
         ensures { result ≡ as_selector self }
     {
@@ -30,22 +24,14 @@ impl Presentation {
     }
 
     // Returns the presentation that a character requests, if it is a selector.
-    pub fn from_selector(ch: u32) -> FromSelector
+    #[tactic(auto, unfolding(crate::specs::Presentation::from_selector))]
+    pub fn from_selector(ch: u32) -> Option<Presentation>
         ensures { result ≡ from_selector ch }
     {
-        if ch == TEXT_PRESENTATION_SELECTOR {
-            return FromSelector::Selector(Presentation::Text);
+        match ch {
+            TEXT_PRESENTATION_SELECTOR => Some(Presentation::Text),
+            EMOJI_PRESENTATION_SELECTOR => Some(Presentation::Emoji),
+            _ => None,
         }
-        if ch == EMOJI_PRESENTATION_SELECTOR {
-            return FromSelector::Selector(Presentation::Emoji);
-        }
-        FromSelector::NoSelector
-    }
-
-    // Whether two presentations are equal.
-    pub fn eq(self, rhs: Self) -> bool
-        ensures { (result ≡ true) ↔ (self ≡ rhs) }
-    {
-        Presentation::as_selector(self) == Presentation::as_selector(rhs)
     }
 }

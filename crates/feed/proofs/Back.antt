@@ -1,4 +1,6 @@
 -- The bytes of a feed encode it: they are read back to the same feed.
+use Rattle.emoji.specs.declared.presentation.Presentation.{Presentation}
+use Rattle.std.specs.Prelude.{Err, Some, None, Option}
 use mathlib.Core.Path.{◌≡◌, refl, ap, ap₂, sym, ◌∙◌}
 use mathlib.Core.Bool.{Bool, true, false, cond, not}
 use mathlib.Core.List.{List, [], ◌∷◌, ◌++◌, append_assoc}
@@ -12,15 +14,12 @@ use Rattle.base.specs.Words.{all_bytes, number, word_at, word_bytes}
 use Rattle.base.proofs.Words.{length_word_bytes, little_endian-number, number-little_endian}
 use Rattle.base.specs.Words.{bytes_of}
 use Rattle.base.specs.declared.Refusal.TheVariants.{FeedEnded}
-use Rattle.emoji.specs.declared.presentation.FromSelector.{FromSelector}
-use Rattle.emoji.specs.declared.presentation.FromSelector.TheVariants.{NoSelector, Selector}
 use Rattle.emoji.specs.declared.presentation.Presentation.TheVariants.{Emoji, Text}
 use Rattle.policy.specs.PolicyBytes.{policy_of}
 use Rattle.policy.specs.declared.Policy.{Policy}
 use Rattle.analysis.specs.Rules.{selector_number}
 use Rattle.feed.specs.Calls.{Call, Feed, after, answer, next}
 use Rattle.feed.specs.declared.State.{State}
-use Rattle.feed.specs.declared.FeedAnswer.TheVariants.{Refused}
 use Rattle.feed.specs.Bytes.{
   bytes_for,
   called,
@@ -72,10 +71,10 @@ ended-back : (b : Bool) → not (eqb (one_if b) 0) ≡ b
 ended-back true = refl
 ended-back false = refl
 
-first_back : (f : FromSelector) → selector_of (selector_number f) ≡ f
-first_back NoSelector = refl
-first_back (Selector Text) = refl
-first_back (Selector Emoji) = refl
+first_back : (f : Option Presentation) → selector_of (selector_number f) ≡ f
+first_back None = refl
+first_back (Some Text) = refl
+first_back (Some Emoji) = refl
 
 module _ (s : State) (t : List ℕ) (w : (k : ℕ) → get_or (state_words s) k 0 < 256 ^ 8) (n : s.held.base < 4294967296) where
   abbrev B : List ℕ
@@ -150,5 +149,5 @@ unfolding called
 calls_agree f policy h e c =
     let bs = bytes_for f policy in
     let a = answer (feed_of bs) c in
-    ap (λ (t : Bool). cond t (leaves bs (out_of c) (after (feed_of bs) c a) a) (refuses (Refused FeedEnded) bs (out_of c))) e
+    ap (λ (t : Bool). cond t (leaves bs (out_of c) (after (feed_of bs) c a) a) (refuses (Err FeedEnded) bs (out_of c))) e
     ∙ ap (λ (g : Feed). leaves bs (out_of c) (after g c (answer g c)) (answer g c)) (reads_back f policy h)

@@ -1,4 +1,5 @@
 -- Characters that are taken one after the other are formatted and counted as a whole.
+use Rattle.std.specs.Prelude.{Some, None, Option}
 use mathlib.Core.Path.{◌≡◌, refl, ap, ap₂, sym, ◌∙◌, subst}
 use mathlib.Core.Bool.{Bool, true, false, cond}
 use mathlib.Core.List.{List, [], ◌∷◌, ◌++◌, append_assoc, append-nil, map}
@@ -7,8 +8,6 @@ use native.Mathlib.Omega.{arith}
 use lib.ListN.{length, replicate, length-append, length-replicate}
 use Rattle.emoji.specs.Presentation.{as_selector, from_selector, is_selector}
 use Rattle.emoji.specs.Unicode.{has_variation_sequence}
-use Rattle.emoji.specs.declared.presentation.FromSelector.{FromSelector}
-use Rattle.emoji.specs.declared.presentation.FromSelector.TheVariants.{NoSelector, Selector}
 use Rattle.emoji.specs.declared.presentation.Presentation.{Presentation}
 use Rattle.policy.specs.declared.Policy.{Policy}
 use Rattle.scanner.specs.Classes.{class_of}
@@ -127,7 +126,7 @@ same_numbers : (p : Policy) (c : ℕ) (s t u : List Presentation) (xs : List Fed
 same_numbers p c s t u xs f n =
     let k = following (cells (chars_of xs)) in
     by-numbers p c k (s ++ u)
-    ∙ ap₂ (λ (a : FromSelector) (m : ℕ). outcome p c k (run_with a m)) f (omega (arith, length-append s u, length-append t u))
+    ∙ ap₂ (λ (a : Option Presentation) (m : ℕ). outcome p c k (run_with a m)) f (omega (arith, length-append s u, length-append t u))
     ∙ sym (by-numbers p c k (t ++ u))
 
 -- ---- the held base
@@ -135,8 +134,8 @@ same_numbers p c s t u xs f n =
 -- A held base has a first selector exactly if it has selectors.
 pub data Sound : Pending → Type 0 where
   none_held : Sound nothing
-  bare_held_lem : {p : Policy} {c : ℕ} → is_selector c ≡ false → Sound (base p c NoSelector 0)
-  held : {p : Policy} {c n : ℕ} {q : Presentation} → is_selector c ≡ false → Sound (base p c (Selector q) (suc n))
+  bare_held_lem : {p : Policy} {c : ℕ} → is_selector c ≡ false → Sound (base p c None 0)
+  held : {p : Policy} {c n : ℕ} {q : Presentation} → is_selector c ≡ false → Sound (base p c (Some q) (suc n))
 
 abbrev pub pending_fed : Pending → List Fed
 pending_fed nothing = []
@@ -190,7 +189,7 @@ count-total d q xs g =
     sym (empty-plus (count_fed Z)) ∙ ap (λ (a : P). unsanctioned (length a.0) ⊕ count_fed Z) (sym (split-char d (chars_of xs) g))
 
 -- A held base before other characters.
-module _ (p : Policy) (c : ℕ) (f : FromSelector) (n : ℕ) (e : is_selector c ≡ false) where
+module _ (p : Policy) (c : ℕ) (f : Option Presentation) (n : ℕ) (e : is_selector c ≡ false) where
   held_before : (d : ℕ) (q : Policy) (xs : List Fed) → is_selector d ≡ false
       → O p c e (run_with f n) (record { char = d; policy = q } ∷ xs) ≡ outcome p c (class_of d) (run_with f n)
   unfolding following
@@ -262,12 +261,12 @@ module _ (p : Policy) (c : ℕ) (e : is_selector c ≡ false) (q : Presentation)
       ∙ ap₂ (λ (o : Outcome) (m : NonCanonicality). o.counts ⊕ m) (before_selector s ∙ h) (count-run p' (q ∷ []) xs)
       ∙ sym (total_base p c e t xs)
 
-  first_more : outcome p c K ([] ++ q ∷ L) ≡ outcome p c K (run_with (Selector q) 1 ++ L)
+  first_more : outcome p c K ([] ++ q ∷ L) ≡ outcome p c K (run_with (Some q) 1 ++ L)
   unfolding run_with
   first_more = refl
 
-  one_more : (r : Presentation) (n : ℕ) → outcome p c K (run_with (Selector r) (suc n) ++ q ∷ L)
-      ≡ outcome p c K (run_with (Selector r) (suc (suc n)) ++ L)
+  one_more : (r : Presentation) (n : ℕ) → outcome p c K (run_with (Some r) (suc n) ++ q ∷ L)
+      ≡ outcome p c K (run_with (Some r) (suc (suc n)) ++ L)
   unfolding run_with first_asked
   one_more r n =
       let s : List Presentation = r ∷ replicate (suc n - 1) r in
@@ -278,7 +277,7 @@ module _ (p : Policy) (c : ℕ) (e : is_selector c ≡ false) (q : Presentation)
 
 -- ---- a step, and a list of characters
 
-is_held : {p : Policy} {c n : ℕ} {f : FromSelector} → Sound (base p c f n) → is_selector c ≡ false
+is_held : {p : Policy} {c n : ℕ} {f : Option Presentation} → Sound (base p c f n) → is_selector c ≡ false
 is_held (bare_held_lem e) = e
 is_held (held e) = e
 
@@ -290,23 +289,23 @@ step_selector nothing none_held q p' xs = record {
   text = format_selector q p' xs;
   counts = total_selector q p' xs;
 }
-step_selector (base p c NoSelector zero) (bare_held_lem e) q p' xs = record {
+step_selector (base p c None zero) (bare_held_lem e) q p' xs = record {
   sound = held e;
-  text = selector_text p c e q p' xs [] (run_with (Selector q) 1) (first_more p c e q p' xs);
-  counts = selector_counts p c e q p' xs [] (run_with (Selector q) 1) (first_more p c e q p' xs) ∙ sym (empty-plus _);
+  text = selector_text p c e q p' xs [] (run_with (Some q) 1) (first_more p c e q p' xs);
+  counts = selector_counts p c e q p' xs [] (run_with (Some q) 1) (first_more p c e q p' xs) ∙ sym (empty-plus _);
 }
-step_selector (base p c (Selector r) (suc n)) (held e) q p' xs = record {
+step_selector (base p c (Some r) (suc n)) (held e) q p' xs = record {
   sound = held e;
-  text = selector_text p c e q p' xs (run_with (Selector r) (suc n)) (run_with (Selector r) (suc (suc n))) (one_more p c e q p' xs r n);
+  text = selector_text p c e q p' xs (run_with (Some r) (suc n)) (run_with (Some r) (suc (suc n))) (one_more p c e q p' xs r n);
   counts =
-      selector_counts p c e q p' xs (run_with (Selector r) (suc n)) (run_with (Selector r) (suc (suc n))) (one_more p c e q p' xs r n) ∙ sym
+      selector_counts p c e q p' xs (run_with (Some r) (suc n)) (run_with (Some r) (suc (suc n))) (one_more p c e q p' xs r n) ∙ sym
       (empty-plus _);
 }
-step_selector (base p c (Selector r) zero) x6 q p' xs = elim x6 [ ]
-step_selector (base p c NoSelector (suc n)) x7 q p' xs = elim x7 [ ]
+step_selector (base p c (Some r) zero) x6 q p' xs = elim x6 [ ]
+step_selector (base p c None (suc n)) x7 q p' xs = elim x7 [ ]
 
 step-char : (s : Pending) → Sound s → (d : ℕ) (p' : Policy) (xs : List Fed) → is_selector d ≡ false
-    → Step s (record { char = d; policy = p' }) xs (take_char p' s d NoSelector)
+    → Step s (record { char = d; policy = p' }) xs (take_char p' s d None)
 unfolding take_char settle
 step-char nothing h d p' xs g =
     let b = has_variation_sequence d in
@@ -338,10 +337,10 @@ step s h x xs = go (char_is x.char)
     go (a_selector q e) =
         subst (λ (y : Fed). Step s y xs (take_char x.policy s x.char (from_selector x.char)))
         (λ i. record { char = sym e i; policy = x.policy })
-        (subst (λ (f : FromSelector). Step s (record { char = as_selector q; policy = x.policy }) xs (take_char x.policy s x.char f))
+        (subst (λ (f : Option Presentation). Step s (record { char = as_selector q; policy = x.policy }) xs (take_char x.policy s x.char f))
         (sym (ap from_selector e ∙ from_selector_lem q)) (step_selector s h q x.policy xs))
     go (no_selector e) =
-        subst (λ (f : FromSelector). Step s x xs (take_char x.policy s x.char f)) (sym (from-other x.char e))
+        subst (λ (f : Option Presentation). Step s x xs (take_char x.policy s x.char f)) (sym (from-other x.char e))
         (step-char s h x.char x.policy xs e)
 
 pub whole-format : (s : Pending) → Sound s → (xs : List Fed) → WholeFormat s xs (take_chars s xs)

@@ -1,4 +1,5 @@
 -- Lists of calls on the bytes of a feed begun new: the bytes stay those of the feed, and the claims on the feed are claims on its bytes.
+use Rattle.std.specs.Prelude.{Err}
 use mathlib.Core.Path.{◌≡◌, refl, ap, ap₂, sym, ◌∙◌, subst}
 use mathlib.Core.Bool.{Bool, true, false, cond, ◌||◌, true≢false}
 use mathlib.Core.List.{List, ◌∷◌, ◌++◌}
@@ -59,7 +60,6 @@ use Rattle.feed.specs.Bytes.{
   totals_of,
 }
 use Rattle.feed.specs.Theorems.{FeedInBytes, GoesOn, HeldLast, NextEnd, NextPiece, OfBytes, and_end, and_piece, no_call}
-use Rattle.feed.specs.declared.FeedAnswer.TheVariants.{Refused}
 use Rattle.feed.proofs.Answered.{
   Answered,
   answered,
@@ -238,7 +238,7 @@ module _ {f : Feed} {t : List ℕ} {X : List Fed} {W : List ℕ} (k : FeedClaim 
   piece_outcome b out (piece_3 h l u) = record {
     ended = λ e. absurd (true≢false (sym e ∙ h));
     long = λ e m. absurd (omega (arith, len_is));
-    ill_formed = λ e m n. ap (λ (i : ℕ). refuses (Refused (NotWellFormed i)) B out) (offset_is b);
+    ill_formed = λ e m n. ap (λ (i : ℕ). refuses (Err (NotWellFormed i)) B out) (offset_is b);
     short = λ e m n. absurd (stops b u n);
     taken = λ e m n. absurd (stops b u n);
   }
@@ -364,15 +364,15 @@ every_feed policy ok cs o =
 
 -- ---- any bytes
 
-pub refusal_writes_nothing : (bs : List ℕ) (c : Call) (r : Refusal) → (called bs c).answer ≡ Refused r
+pub refusal_writes_nothing : (bs : List ℕ) (c : Call) (r : Refusal) → (called bs c).answer ≡ Err r
     → ((called bs c).feed ≡ bs) × ((called bs c).out ≡ out_of c)
 unfolding called
 refusal_writes_nothing bs c r e = go (is_feed bs) (answer (feed_of bs) c) e
   where
     R : Bool → Answer → Called
-    R t a = cond t (leaves bs (out_of c) (after (feed_of bs) c a) a) (refuses (Refused FeedEnded) bs (out_of c))
+    R t a = cond t (leaves bs (out_of c) (after (feed_of bs) c a) a) (refuses (Err FeedEnded) bs (out_of c))
 
-    go : (t : Bool) (a : Answer) → (R t a).answer ≡ Refused r → ((R t a).feed ≡ bs) × ((R t a).out ≡ out_of c)
+    go : (t : Bool) (a : Answer) → (R t a).answer ≡ Err r → ((R t a).feed ≡ bs) × ((R t a).out ≡ out_of c)
     go false a e = (refl, refl)
     go true (refused r) e = (refl, refl)
     go true (wrote o) e = let z : ◌≡◌ {A = ℕ} 0 1 = cc in absurd (omega arith)

@@ -1,5 +1,7 @@
 -- What every feed begun new and handed on keeps: its numbers are small, its rest is unfinished, and the held base has an entry and is
 -- judged by the feed's policy. So its bytes encode it, and they pass the calls' test.
+use Rattle.emoji.specs.declared.presentation.Presentation.{Presentation}
+use Rattle.std.specs.Prelude.{Some, None, Option}
 use mathlib.Core.Path.{◌≡◌, refl, ap, sym, ◌∙◌}
 use mathlib.Core.Bool.{Bool, true, false, cond, ◌&&◌, true≢false}
 use mathlib.Core.List.{List, [], ◌∷◌, ◌++◌}
@@ -22,8 +24,6 @@ use Rattle.emoji.specs.Presentation.{from_selector}
 use Rattle.emoji.specs.Tables.{member}
 use Rattle.emoji.specs.Unicode.{has_variation_sequence}
 use Rattle.emoji.specs.UnicodeData.{variation_entries}
-use Rattle.emoji.specs.declared.presentation.FromSelector.{FromSelector}
-use Rattle.emoji.specs.declared.presentation.FromSelector.TheVariants.{NoSelector, Selector}
 use Rattle.policy_key_set.proofs.Below.{number_le}
 use Rattle.policy_key_set.specs.Sets.{entry_count, word_count}
 use Rattle.policy.specs.PolicyBytes.{is_policy, policy_of}
@@ -71,23 +71,23 @@ weight (base p c f n) = suc n
 settle-few : (s : Pending) → Sound s → (k : Class) → total (settle s k).counts ≤ weight s
 unfolding settle weight run_with
 settle-few nothing none_held k = omega arith
-settle-few (base p c NoSelector zero) (bare_held_lem e) k = omega (arith, few p c k (run_with NoSelector 0))
-settle-few (base p c (Selector q) (suc n)) (held e) k =
-    omega (arith, few p c k (run_with (Selector q) (suc n)), length-replicate (suc n - 1) q)
-settle-few (base p c (Selector q) zero) x6 k = elim x6 [ ]
-settle-few (base p c NoSelector (suc n)) x7 k = elim x7 [ ]
+settle-few (base p c None zero) (bare_held_lem e) k = omega (arith, few p c k (run_with None 0))
+settle-few (base p c (Some q) (suc n)) (held e) k =
+    omega (arith, few p c k (run_with (Some q) (suc n)), length-replicate (suc n - 1) q)
+settle-few (base p c (Some q) zero) x6 k = elim x6 [ ]
+settle-few (base p c None (suc n)) x7 k = elim x7 [ ]
 
 held-weight : (p : Policy) (c : ℕ) (b : Bool) → weight (held_after_of p c b) ≤ 1
 unfolding weight
 held-weight p c true = omega arith
 held-weight p c false = omega arith
 
-char-few : (p : Policy) (s : Pending) → Sound s → (c : ℕ) (y : FromSelector)
+char-few : (p : Policy) (s : Pending) → Sound s → (c : ℕ) (y : Option Presentation)
     → total (take_char p s c y).1.counts + weight (take_char p s c y).0 ≤ weight s + 1
 unfolding take_char take_selector weight
-char-few p nothing h c (Selector q) = omega arith
-char-few p (base p' d f n) h c (Selector q) = omega arith
-char-few p s h c NoSelector = omega (arith, settle-few s h (class_of c), held-weight p c (has_variation_sequence c))
+char-few p nothing h c (Some q) = omega arith
+char-few p (base p' d f n) h c (Some q) = omega arith
+char-few p s h c None = omega (arith, settle-few s h (class_of c), held-weight p c (has_variation_sequence c))
 
 pub chars-few : (s : Pending) → Sound s → (xs : List Fed)
     → total (take_chars s xs).1.counts + weight (take_chars s xs).0 ≤ weight s + length xs
@@ -109,13 +109,14 @@ entry_some c e z = true≢false (sym e ∙ ap has_variation_sequence z ∙ no_ze
 -- A held base is a scalar value, has an entry, and is judged by the policy.
 pub data HeldUnder (p : Policy) : Pending → Type 0 where
   no_base : HeldUnder p nothing
-  a_base : {c n : ℕ} {f : FromSelector} → is_scalar c ≡ true → has_variation_sequence c ≡ true → HeldUnder p (base p c f n)
+  a_base : {c n : ℕ} {f : Option Presentation} → is_scalar c ≡ true → has_variation_sequence c ≡ true → HeldUnder p (base p c f n)
 
-char-held : (p : Policy) {s : Pending} → HeldUnder p s → (c : ℕ) (y : FromSelector) → is_scalar c ≡ true → HeldUnder p (take_char p s c y).0
+char-held : (p : Policy) {s : Pending} → HeldUnder p s → (c : ℕ) (y : Option Presentation) → is_scalar c ≡ true
+    → HeldUnder p (take_char p s c y).0
 unfolding take_char take_selector
-char-held p no_base c (Selector q) i = no_base
-char-held p (a_base j e) c (Selector q) i = a_base j e
-char-held p h c NoSelector i = go (has_variation_sequence c) refl
+char-held p no_base c (Some q) i = no_base
+char-held p (a_base j e) c (Some q) i = a_base j e
+char-held p h c None i = go (has_variation_sequence c) refl
   where
     go : (b : Bool) → has_variation_sequence c ≡ b → HeldUnder p (held_after_of p c b)
     go true e = a_base i e

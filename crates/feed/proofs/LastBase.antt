@@ -1,4 +1,5 @@
 -- What is held after characters were taken one after the other: the last base, if it has a variation entry, with its selectors.
+use Rattle.std.specs.Prelude.{Option}
 use mathlib.Core.Path.{◌≡◌, refl, ap, ap₂, sym, ◌∙◌, subst}
 use mathlib.Core.Bool.{Bool, true, false}
 use mathlib.Core.List.{List, [], ◌∷◌, ◌++◌, append_assoc, append-nil, map}
@@ -7,7 +8,6 @@ use native.Mathlib.Omega.{arith}
 use lib.ListN.{length, length-append}
 use Rattle.emoji.specs.Presentation.{as_selector, from_selector, is_selector}
 use Rattle.emoji.specs.Unicode.{has_variation_sequence}
-use Rattle.emoji.specs.declared.presentation.FromSelector.{FromSelector}
 use Rattle.emoji.specs.declared.presentation.Presentation.{Presentation}
 use Rattle.policy.specs.declared.Policy.{Policy}
 use Rattle.scanner.proofs.SelectorChars.{CharIs, a_selector, char_is, from-other, from_selector_lem, no_selector}
@@ -36,7 +36,7 @@ module _ (before : List ℕ) (c : ℕ) (s : List Presentation) (q : Presentation
 
   more-held : (p : Policy) → base p c (first_of (first_asked s) q) (suc (length s))
       ≡ base p c (first_asked (s ++ (q ∷ []))) (length (s ++ (q ∷ [])))
-  more-held p = ap₂ (λ (f : FromSelector) (n : ℕ). base p c f n) (first_append s q)
+  more-held p = ap₂ (λ (f : Option Presentation) (n : ℕ). base p c f n) (first_append s q)
       (omega (arith, length-append s (q ∷ [])))
 
 -- ---- one more character
@@ -67,11 +67,11 @@ module _ (p : Policy) where
       go : CharIs c → HeldLast p (cs ++ (c ∷ [])) (take_char p h c (from_selector c)).0
       go (a_selector q e) =
           subst (λ (d : ℕ). HeldLast p (cs ++ (d ∷ [])) (take_char p h d (from_selector d)).0) (sym e)
-          (subst (λ (y : FromSelector). HeldLast p (cs ++ (as_selector q ∷ [])) (take_char p h (as_selector q) y).0)
+          (subst (λ (y : Option Presentation). HeldLast p (cs ++ (as_selector q ∷ [])) (take_char p h (as_selector q) y).0)
           (sym (from_selector_lem q))
           (selector_last l q))
       go (no_selector i) =
-          subst (λ (y : FromSelector). HeldLast p (cs ++ (c ∷ [])) (take_char p h c y).0) (sym (from-other c i))
+          subst (λ (y : Option Presentation). HeldLast p (cs ++ (c ∷ [])) (take_char p h c y).0) (sym (from-other c i))
           (other_last cs c (has_variation_sequence c) i refl)
 
   -- ---- any number of characters

@@ -1,5 +1,6 @@
 -- What a piece writes: the held base, and each character that the piece completes, with a selector. There are no more such
 -- characters than the piece has bytes.
+use Rattle.std.specs.Prelude.{Some, None, Option}
 use mathlib.Core.Path.{◌≡◌, refl, ap, sym, ◌∙◌}
 use mathlib.Core.Logic.{⊎_elim}
 use mathlib.Core.Bool.{Bool, true, false}
@@ -18,8 +19,6 @@ use Rattle.utf8.proofs.Folds.{chars-char, chars_end, chars_ill_formed}
 use Rattle.utf8.proofs.Texts.{encode_all_append, length_encode_all_chars, valid_up_to_le}
 use Rattle.emoji.specs.Presentation.{as_selector, from_selector}
 use Rattle.emoji.specs.Unicode.{has_variation_sequence}
-use Rattle.emoji.specs.declared.presentation.FromSelector.{FromSelector}
-use Rattle.emoji.specs.declared.presentation.FromSelector.TheVariants.{NoSelector, Selector}
 use Rattle.emoji.specs.declared.presentation.Presentation.{Presentation}
 use Rattle.emoji.specs.declared.presentation.Presentation.TheVariants.{Emoji, Text}
 use Rattle.policy.specs.declared.Policy.{Policy}
@@ -90,12 +89,12 @@ alone_bytes p c true = omega arith
 alone_bytes p c false = omega (arith, length-append (encode c) [])
 
 -- One character: what is written and then held.
-pub char_bytes : (p : Policy) (s : Pending) (c : ℕ) (y : FromSelector)
+pub char_bytes : (p : Policy) (s : Pending) (c : ℕ) (y : Option Presentation)
     → length (encode_all (take_char p s c y).1.text) + held (take_char p s c y).0 ≤ held s + (length (encode c) + 3)
 unfolding take_char take_selector encode_all held
-char_bytes p nothing c (Selector q) = omega arith
-char_bytes p (base p' d f n) c (Selector q) = omega arith
-char_bytes p s c NoSelector =
+char_bytes p nothing c (Some q) = omega arith
+char_bytes p (base p' d f n) c (Some q) = omega arith
+char_bytes p s c None =
     let h = has_variation_sequence c in
     let a = (settle s (class_of c)).text in
     let e = ap length (encode_all_append a (written_alone c h)) in

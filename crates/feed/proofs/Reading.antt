@@ -1,4 +1,6 @@
 -- The words of a state, read one after the other.
+use Rattle.emoji.specs.declared.presentation.Presentation.{Presentation}
+use Rattle.std.specs.Prelude.{Option}
 use mathlib.Core.Path.{◌≡◌, ap, sym, ◌∙◌}
 use mathlib.Core.Bool.{Bool, false, not, ◌&&◌}
 use mathlib.Core.List.{List}
@@ -10,13 +12,12 @@ use lib.Seq.{take-length}
 use borrow.Author.Tests.{le-leb, lt-leb}
 use Rattle.base.specs.Words.{word_at}
 use Rattle.base.specs.Refusals.{text_limit}
-use Rattle.emoji.specs.declared.presentation.FromSelector.{FromSelector}
 use Rattle.analysis.specs.declared.types.NonCanonicality.{NonCanonicality}
 use Rattle.feed.specs.declared.Held.{Held}
 use Rattle.feed.specs.declared.State.{State}
 use Rattle.feed.specs.Bytes.{counts_of, selector_of, held_of, small_to, state_of}
 
-pub held-made : (bs : List ℕ) {b n : ℕ} {f : FromSelector} → b ≡ word_at 1 bs % 4294967296 → f ≡ selector_of (word_at 2 bs)
+pub held-made : (bs : List ℕ) {b n : ℕ} {f : Option Presentation} → b ≡ word_at 1 bs % 4294967296 → f ≡ selector_of (word_at 2 bs)
     → n ≡ word_at 3 bs
     → ◌≡◌ {A = Held} (record { base = b; first = f; count = n }) (held_of bs)
 unfolding held_of

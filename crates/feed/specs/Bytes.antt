@@ -1,5 +1,7 @@
 -- A feed in lent bytes (document 02, iii): which bytes are a feed, and what each call answers and leaves in the lent buffers, for any
 -- bytes. For a feed begun new and handed on from call to call, specs/Theorems.antt (EveryFeedInBytes) says what this amounts to.
+use Rattle.emoji.specs.declared.presentation.Presentation.{Presentation}
+use Rattle.base.specs.declared.Refusal.{Refusal}
 use Rattle.std.specs.Prelude.{
   ◌≡◌,
   Bool,
@@ -22,16 +24,20 @@ use Rattle.std.specs.Prelude.{
   drop,
   length,
   take,
+  Ok,
+  Err,
+  Some,
+  None,
+  Result,
+  Option,
 }
 use Rattle.base.specs.Sums.{one_if}
-use Rattle.base.specs.Answers.{Answers, done}
-use Rattle.base.specs.Refusals.{After, RefusalRow, or_else, refusal_row, text_limit, unwritten, written}
+use Rattle.base.specs.Answers.{Answers, answer_row}
+use Rattle.base.specs.Refusals.{After, or_else, text_limit, unwritten, written}
 use Rattle.base.specs.declared.Refusal.TheVariants.{FeedEnded, OutputTooShort}
 use Rattle.base.specs.Words.{bytes_of, little_endian, number, word_at}
 use Rattle.utf8.specs.Rfc3629.{is_scalar}
 use Rattle.utf8.specs.Subparts.{unfinished}
-use Rattle.emoji.specs.declared.presentation.FromSelector.{FromSelector}
-use Rattle.emoji.specs.declared.presentation.FromSelector.TheVariants.{NoSelector, Selector}
 use Rattle.emoji.specs.declared.presentation.Presentation.TheVariants.{Emoji, Text}
 use Rattle.policy.specs.PolicyBytes.{is_policy, policy_of, policy_refusal}
 use Rattle.policy.specs.declared.Policy.{Policy}
@@ -43,8 +49,6 @@ use Rattle.feed.specs.Feed.{Pending, base, nothing}
 use Rattle.feed.specs.Calls.{Answer, Call, Feed, after, answer, end, new_feed, piece, refused, totals_now, wrote}
 use Rattle.feed.specs.declared.Held.{Held}
 use Rattle.feed.specs.declared.State.{State}
-use Rattle.feed.specs.declared.FeedAnswer.{FeedAnswer}
-use Rattle.feed.specs.declared.FeedAnswer.TheVariants.{Refused, Written}
 
 -- ---- the words
 
@@ -56,8 +60,8 @@ abbrev pub feed_bytes : ℕ
 feed_bytes = 320
 
 -- The first selector as a word: 0 is none, 1 is Text, 2 is Emoji.
-abbrev pub selector_of : ℕ → FromSelector
-selector_of w = cond (eqb w 0) NoSelector (cond (eqb w 1) (Selector Text) (Selector Emoji))
+abbrev pub selector_of : ℕ → Option Presentation
+selector_of w = cond (eqb w 0) None (cond (eqb w 1) (Some Text) (Some Emoji))
 
 -- "Of the text it remembers only these: the base, its first selector, how many followed, and the unfinished character." The words are:
 -- whether the feed has ended; the base, or 0 if none is held; its first selector; the number of its selectors; the number of unfinished
@@ -120,7 +124,7 @@ is_feed bs =
 -- ---- the bytes that encode a feed
 
 abbrev pub held_for : Pending → Held
-held_for nothing = record { base = 0; first = NoSelector; count = 0 }
+held_for nothing = record { base = 0; first = None; count = 0 }
 held_for (base p c f n) = record { base = c; first = f; count = n }
 
 unfoldable pub state_for : Feed → State
@@ -139,31 +143,26 @@ bytes_for f policy = bytes_of (state_words (state_for f)) ++ policy
 
 -- ---- the calls, on any bytes
 
--- The row of an answer: a success with the number of bytes written, or the refusal's row.
-unfoldable pub feed_row : FeedAnswer → RefusalRow
-feed_row (Written n) = done n
-feed_row (Refused r) = refusal_row r
-
 -- The answer of a piece or an end, and what both lent buffers hold after it.
 pub record Called : Type 0 where
-  pub answer : FeedAnswer
+  pub answer : Result ℕ Refusal
   pub feed : List ℕ
   pub out : List ℕ
 
 -- Contract of a piece and of an end: the answer that the definition gives, and both buffers as it says.
-pub record EndsCalled (said : Called) (r : FeedAnswer) (feed out : List ℕ) : Type 0 where
-  pub answer : Answers feed_row said.answer r
+pub record EndsCalled (said : Called) (r : Result ℕ Refusal) (feed out : List ℕ) : Type 0 where
+  pub answer : Answers answer_row said.answer r
   pub feed_bytes_lem : feed ≡ said.feed
   pub out_bytes : out ≡ said.out
 
 -- "A refused call changes neither feed nor output."
-abbrev pub refuses : FeedAnswer → List ℕ → List ℕ → Called
+abbrev pub refuses : Result ℕ Refusal → List ℕ → List ℕ → Called
 refuses a bs out = record { answer = a; feed = bs; out = out }
 
 abbrev pub leaves : List ℕ → List ℕ → Feed → Answer → Called
 leaves bs out f (wrote o) =
-    record { answer = Written (length o); feed = bytes_for f (drop state_bytes bs); out = o ++ drop (length o) out }
-leaves bs out f (refused r) = refuses (Refused r) bs out
+    record { answer = Ok (length o); feed = bytes_for f (drop state_bytes bs); out = o ++ drop (length o) out }
+leaves bs out f (refused r) = refuses (Err r) bs out
 
 -- The output of a call before it.
 abbrev pub out_of : Call → List ℕ
@@ -175,7 +174,7 @@ out_of (end out) = out
 unfoldable pub called : List ℕ → Call → Called
 called bs c =
     let a = answer (feed_of bs) c in
-    cond (is_feed bs) (leaves bs (out_of c) (after (feed_of bs) c a) a) (refuses (Refused FeedEnded) bs (out_of c))
+    cond (is_feed bs) (leaves bs (out_of c) (after (feed_of bs) c a) a) (refuses (Err FeedEnded) bs (out_of c))
 
 -- "Its eight totals can be read at any time". Bytes that are no feed have totals of 0.
 unfoldable pub totals_of : List ℕ → NonCanonicality
@@ -185,11 +184,11 @@ totals_of bs = cond (is_feed bs) (totals_now (feed_of bs)) empty
 unfoldable pub new_bytes : List ℕ → List ℕ
 new_bytes policy = bytes_for (new_feed (policy_of policy)) policy
 
-unfoldable pub begun : List ℕ → List ℕ → After FeedAnswer ℕ
+unfoldable pub begun : List ℕ → List ℕ → After (Result ℕ Refusal) ℕ
 begun policy feed =
-    or_else (policy_refusal policy) (λ r. unwritten (Refused r) feed)
-    (cond (leb feed_bytes (length feed)) (written (Written feed_bytes) (new_bytes policy) feed)
-    (unwritten (Refused (OutputTooShort feed_bytes)) feed))
+    or_else (policy_refusal policy) (λ r. unwritten (Err r) feed)
+    (cond (leb feed_bytes (length feed)) (written (Ok feed_bytes) (new_bytes policy) feed)
+    (unwritten (Err (OutputTooShort feed_bytes)) feed))
 
 -- ---- lists of calls on a feed's bytes, which are handed on from call to call, refused calls included
 
@@ -198,18 +197,18 @@ feed_after_calls bs [] = bs
 feed_after_calls bs (c ∷ cs) = feed_after_calls (called bs c).feed cs
 
 -- What a call wrote: the front of its output.
-abbrev pub output_of : Called → FeedAnswer → List ℕ
-output_of r (Written n) = take n r.out
-output_of r (Refused f) = []
+abbrev pub output_of : Called → Result ℕ Refusal → List ℕ
+output_of r (Ok n) = take n r.out
+output_of r (Err f) = []
 
 unfoldable pub joined_outputs : List ℕ → List Call → List ℕ
 joined_outputs bs [] = []
 joined_outputs bs (c ∷ cs) = output_of (called bs c) (called bs c).answer ++ joined_outputs (called bs c).feed cs
 
 -- The thread: the pieces that were taken.
-abbrev pub piece_taken : Call → FeedAnswer → List ℕ
-piece_taken (piece b out) (Written n) = b
-piece_taken (piece b out) (Refused r) = []
+abbrev pub piece_taken : Call → Result ℕ Refusal → List ℕ
+piece_taken (piece b out) (Ok n) = b
+piece_taken (piece b out) (Err r) = []
 piece_taken (end out) a = []
 
 unfoldable pub thread_of : List ℕ → List Call → List ℕ
@@ -217,10 +216,10 @@ thread_of bs [] = []
 thread_of bs (c ∷ cs) = piece_taken c (called bs c).answer ++ thread_of (called bs c).feed cs
 
 -- Whether one of the calls ended the feed.
-abbrev pub end_taken : Call → FeedAnswer → Bool
+abbrev pub end_taken : Call → Result ℕ Refusal → Bool
 end_taken (piece b out) a = false
-end_taken (end out) (Written n) = true
-end_taken (end out) (Refused r) = false
+end_taken (end out) (Ok n) = true
+end_taken (end out) (Err r) = false
 
 unfoldable pub has_ended : List ℕ → List Call → Bool
 has_ended bs [] = false

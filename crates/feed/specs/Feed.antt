@@ -1,11 +1,9 @@
 -- What a feed does with characters (document 02, iii). A feed takes one character after the other. It holds the last base that has a
 -- variation entry, with its selectors, until the next character that is no selector. Then the rules settle which selector the base gets.
 -- The characters that were taken are formatted as a whole: specs/Theorems.antt, EveryFeed.
-use Rattle.std.specs.Prelude.{Bool, true, false, cond, List, [], ◌∷◌, ◌++◌, map, ℕ, suc, ◌+◌, ◌*◌, length}
+use Rattle.std.specs.Prelude.{Bool, true, false, cond, List, [], ◌∷◌, ◌++◌, map, ℕ, suc, ◌+◌, ◌*◌, length, Some, None, Option}
 use Rattle.emoji.specs.Presentation.{as_selector, from_selector, is_selector}
 use Rattle.emoji.specs.Unicode.{has_variation_sequence}
-use Rattle.emoji.specs.declared.presentation.FromSelector.{FromSelector}
-use Rattle.emoji.specs.declared.presentation.FromSelector.TheVariants.{NoSelector, Selector}
 use Rattle.emoji.specs.declared.presentation.Presentation.{Presentation}
 use Rattle.policy.specs.declared.Policy.{Policy}
 use Rattle.scanner.specs.Classes.{class_of}
@@ -62,7 +60,7 @@ total_fed xs = unsanctioned (length (leading (chars_of xs))) ⊕ count_fed xs
 -- selector, how many followed". The number is that of all its selectors. The policy is the one that judges the base.
 pub data Pending : Type 0 where
   nothing : Pending
-  base : Policy → ℕ → FromSelector → ℕ → Pending
+  base : Policy → ℕ → Option Presentation → ℕ → Pending
 
 -- What is written and counted.
 pub record Effect : Type 0 where
@@ -84,7 +82,7 @@ settle (base p c f n) k =
 
 -- What is held after a character that is no selector. The Boolean says whether it has a variation entry.
 abbrev pub held_after_of : Policy → ℕ → Bool → Pending
-held_after_of p c true = base p c NoSelector 0
+held_after_of p c true = base p c None 0
 held_after_of p c false = nothing
 
 -- What is written of this character at once.
@@ -93,9 +91,9 @@ written_alone c true = []
 written_alone c false = c ∷ []
 
 -- The first selector of a base when one more follows.
-abbrev pub first_of : FromSelector → Presentation → FromSelector
-first_of NoSelector q = Selector q
-first_of (Selector r) q = Selector r
+abbrev pub first_of : Option Presentation → Presentation → Option Presentation
+first_of None q = Some q
+first_of (Some r) q = Some r
 
 -- A selector belongs to the held base. If nothing is held, it is unsanctioned and not written.
 unfoldable pub take_selector : Pending → Presentation → Pending × Effect
@@ -103,9 +101,9 @@ take_selector nothing q = (nothing, record { text = []; counts = unsanctioned 1 
 take_selector (base p c f n) q = (base p c (first_of f q) (suc n), no_effect)
 
 -- Any other character settles the held base. Then it is held or written.
-unfoldable pub take_char : Policy → Pending → ℕ → FromSelector → Pending × Effect
-take_char p s c (Selector q) = take_selector s q
-take_char p s c NoSelector = (
+unfoldable pub take_char : Policy → Pending → ℕ → Option Presentation → Pending × Effect
+take_char p s c (Some q) = take_selector s q
+take_char p s c None = (
   held_after_of p c (has_variation_sequence c),
   record {
     text = (settle s (class_of c)).text ++ written_alone c (has_variation_sequence c);

@@ -1,5 +1,5 @@
 -- What is claimed of a feed. Each statement is proved in proofs/Claims.antt, under the same name in snake case.
-use Rattle.std.specs.Prelude.{◌≡◌, Bool, true, false, List, [], ◌∷◌, ◌++◌, map, ℕ, ◌+◌, ◌*◌, ◌≤◌, ◌<◌, drop, length}
+use Rattle.std.specs.Prelude.{◌≡◌, Bool, true, false, List, [], ◌∷◌, ◌++◌, map, ℕ, ◌+◌, ◌*◌, ◌≤◌, ◌<◌, drop, length, Ok, Err}
 use Rattle.base.specs.Words.{all_bytes}
 use Rattle.base.specs.declared.Refusal.{Refusal}
 use Rattle.base.specs.declared.Refusal.TheVariants.{FeedEnded, NotWellFormed, OutputTooShort, TextTooLong, UnfinishedCharacter}
@@ -29,7 +29,6 @@ use Rattle.feed.specs.Bytes.{
   thread_of,
   totals_of,
 }
-use Rattle.feed.specs.declared.FeedAnswer.TheVariants.{Refused, Written}
 
 -- The pieces of these calls are bytes, as every lent slice is.
 pub data OfBytes : List Call → Type 0 where
@@ -40,7 +39,7 @@ pub data OfBytes : List Call → Type 0 where
 -- A call is done: it writes some bytes, at most the given number, at the front of its output, and leaves the bytes after them.
 pub record Done (r : Called) (out : List ℕ) (most : ℕ) : Type 0 where
   pub bytes : List ℕ
-  pub answer : r.answer ≡ Written (length bytes)
+  pub answer : r.answer ≡ Ok (length bytes)
   pub out_bytes : r.out ≡ bytes ++ drop (length bytes) out
   pub room : length bytes ≤ most
 
@@ -52,25 +51,25 @@ GoesOn s = (t : List ℕ) × WellFormed (s ++ t)
 -- are 9, 1, 3 and 8, in this order. "A refused call changes neither feed nor output."
 pub record NextPiece (B T : List ℕ) (E : Bool) (b out : List ℕ) (r : Called) : Type 0 where
   -- "9, a piece or an end for a feed already ended, tested before all else"
-  pub ended : E ≡ true → r ≡ refuses (Refused FeedEnded) B out
+  pub ended : E ≡ true → r ≡ refuses (Err FeedEnded) B out
   -- "The length limit holds for the whole thread."
-  pub long : E ≡ false → 16777217 ≤ length T + length b → r ≡ refuses (Refused TextTooLong) B out
+  pub long : E ≡ false → 16777217 ≤ length T + length b → r ≡ refuses (Err TextTooLong) B out
   -- Refusal 3 exactly where no thread that goes on is well-formed. "An ill-formed place is reported by its offset from the thread's start."
   pub ill_formed : E ≡ false → length T + length b ≤ 16777216 → (GoesOn (T ++ b) → ⊥)
-      → r ≡ refuses (Refused (NotWellFormed (valid_up_to_of (T ++ b)))) B out
+      → r ≡ refuses (Err (NotWellFormed (valid_up_to_of (T ++ b)))) B out
   -- "A piece of n bytes that no other test refuses is taken if the output holds 4n + 16 bytes, else refusal 8 gives that figure"
   pub short : E ≡ false → length T + length b ≤ 16777216 → GoesOn (T ++ b) → length out < 4 * length b + 16
-      → r ≡ refuses (Refused (OutputTooShort (4 * length b + 16))) B out
+      → r ≡ refuses (Err (OutputTooShort (4 * length b + 16))) B out
   pub taken : E ≡ false → length T + length b ≤ 16777216 → GoesOn (T ++ b) → 4 * length b + 16 ≤ length out
       → Done r out (4 * length b + 10)
 
 -- The outcome r of the end with the output out. The tests are 9, 10 and 8, in this order.
 pub record NextEnd (B T : List ℕ) (E : Bool) (out : List ℕ) (r : Called) : Type 0 where
-  pub ended : E ≡ true → r ≡ refuses (Refused FeedEnded) B out
+  pub ended : E ≡ true → r ≡ refuses (Err FeedEnded) B out
   -- "10, an end inside a character, tested after 9"
-  pub unfinished : E ≡ false → (WellFormed T → ⊥) → r ≡ refuses (Refused UnfinishedCharacter) B out
+  pub unfinished : E ≡ false → (WellFormed T → ⊥) → r ≡ refuses (Err UnfinishedCharacter) B out
   -- "the end counts as a piece of 0 bytes"
-  pub short : E ≡ false → WellFormed T → length out < 16 → r ≡ refuses (Refused (OutputTooShort 16)) B out
+  pub short : E ≡ false → WellFormed T → length out < 16 → r ≡ refuses (Err (OutputTooShort 16)) B out
   pub taken : E ≡ false → WellFormed T → 16 ≤ length out → Done r out 7
 
 -- What a feed holds after these characters: "a last base that has a variation entry, with its selectors". It is the last character that is
@@ -115,5 +114,5 @@ EveryFeedInBytes =
 -- Any bytes as a feed: "for any other the answer is the program's choice, within the lent buffers, and a refusal still writes nothing."
 unfoldable pub RefusalsWriteNothing : Type 0
 RefusalsWriteNothing =
-    (bs : List ℕ) (c : Call) (r : Refusal) → (called bs c).answer ≡ Refused r
+    (bs : List ℕ) (c : Call) (r : Refusal) → (called bs c).answer ≡ Err r
     → ((called bs c).feed ≡ bs) × ((called bs c).out ≡ out_of c)

@@ -15,18 +15,18 @@ ghost use Rattle.feed.specs.Bytes.{state_bytes, state_of, state_words};
 
 use analysis::types::NonCanonicality;
 use base::{Refusal, TEXT_LIMIT};
-use emoji::presentation::{FromSelector, Presentation};
+use emoji::presentation::Presentation;
 
 // The held base, or 0 if none is held, its first selector, and the number of its selectors.
-#[derive(Clone, Copy)]
+#[derive(Clone, Copy, Debug, PartialEq, Eq)]
 pub struct Held {
     pub base: u32,
-    pub first: FromSelector,
+    pub first: Option<Presentation>,
     pub count: usize,
 }
 
 // The words of a feed. The unfinished bytes are a number, lowest byte first.
-#[derive(Clone, Copy)]
+#[derive(Clone, Copy, Debug, PartialEq, Eq)]
 pub struct State {
     pub ended: bool,
     pub held: Held,
@@ -34,13 +34,6 @@ pub struct State {
     pub rest: usize,
     pub len: usize,
     pub counts: NonCanonicality,
-}
-
-// The answer to a call: the number of bytes written, or a refusal.
-#[derive(Clone, Copy)]
-pub enum FeedAnswer {
-    Written { len: usize },
-    Refused(Refusal),
 }
 
 // The number of words of the state, and of their bytes. The bytes of the policy follow them.
@@ -66,16 +59,14 @@ fn low(w: usize) -> u32
 }
 
 // Returns the first selector that a word encodes.
-fn selector_of(w: usize) -> FromSelector
+fn selector_of(w: usize) -> Option<Presentation>
     ensures { result ≡ selector_of w }
 {
-    if w == 0 {
-        return FromSelector::NoSelector;
+    match w {
+        0 => None,
+        1 => Some(Presentation::Text),
+        _ => Some(Presentation::Emoji),
     }
-    if w == 1 {
-        return FromSelector::Selector(Presentation::Text);
-    }
-    FromSelector::Selector(Presentation::Emoji)
 }
 
 // Reads the held base.
@@ -110,7 +101,7 @@ fn no_state() -> State
 {
     let held = Held {
         base: 0,
-        first: FromSelector::NoSelector,
+        first: None,
         count: 0,
     };
     let counts = NonCanonicality::empty();
@@ -221,29 +212,17 @@ pub fn is_feed(feed: &[u8]) -> bool
 fn ended_word(ended: bool) -> usize
     ensures { result ≡ one_if ended }
 {
-    if ended {
-        return 1;
-    }
-    0
-}
-
-// Returns the word of a presentation as a first selector.
-fn presentation_word(presentation: Presentation) -> usize
-    ensures { result ≡ selector_number (FromSelector.Selector presentation) }
-{
-    match presentation {
-        Presentation::Text => 1,
-        Presentation::Emoji => 2,
-    }
+    usize::from(ended)
 }
 
 // Returns the word of a first selector.
-fn selector_word(first: FromSelector) -> usize
+fn selector_word(first: Option<Presentation>) -> usize
     ensures { result ≡ selector_number first }
 {
     match first {
-        FromSelector::NoSelector => 0,
-        FromSelector::Selector(presentation) => presentation_word(presentation),
+        None => 0,
+        Some(Presentation::Text) => 1,
+        Some(Presentation::Emoji) => 2,
     }
 }
 
@@ -251,13 +230,11 @@ fn selector_word(first: FromSelector) -> usize
 fn state_words(state: State) -> [usize; STATE_WORDS]
     ensures { result ≡ state_words state }
 {
-    let held = state.held;
-    let first = held.first;
-    let counts = state.counts;
+    let State { held, counts, .. } = state;
     [
         ended_word(state.ended),
         held.base as usize,
-        selector_word(first),
+        selector_word(held.first),
         held.count,
         state.rest_len,
         state.rest,

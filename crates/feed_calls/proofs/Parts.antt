@@ -1,5 +1,6 @@
 -- The end of a feed whose policy may change is the end of its first 320 bytes, and its totals are theirs. The outcomes of `begin` and of
 -- a change, by their tests.
+use Rattle.std.specs.Prelude.{Ok, Err, Result}
 use mathlib.Core.Path.{◌≡◌, refl, ap, sym, ◌∙◌, subst}
 use mathlib.Core.Bool.{Bool, true, false, cond}
 use mathlib.Core.List.{List, [], ◌++◌, append_assoc, append-nil}
@@ -12,7 +13,6 @@ use borrow.Author.Tests.{eq-eqb, le-leb, lt-leb, ne_eqb}
 use Rattle.base.specs.Output.{Wrote, room_for}
 use Rattle.base.specs.Refusals.{After, unwritten}
 use Rattle.base.specs.Words.{bytes_of, has_room, word_bytes}
-use Rattle.base.specs.declared.WriteAnswer.{WriteAnswer}
 use Rattle.base.specs.declared.Refusal.{Refusal}
 use Rattle.base.specs.declared.Refusal.TheVariants.{FeedEnded, OutputTooShort}
 use Rattle.base.proofs.Output.{bytes_put}
@@ -39,8 +39,6 @@ use Rattle.feed.specs.Bytes.{
   state_words,
   totals_of,
 }
-use Rattle.feed.specs.declared.FeedAnswer.{FeedAnswer}
-use Rattle.feed.specs.declared.FeedAnswer.TheVariants.{Refused, Written}
 use Rattle.feed.specs.declared.State.{State}
 use Rattle.feed.proofs.Kept.{policy_length_lem}
 use Rattle.feed.proofs.Writing.{words_many}
@@ -61,7 +59,7 @@ use Rattle.feeding.proofs.FirstPart.{glued, refused_glued}
 use Rattle.feeding.proofs.LaterPieces.{part-feed, seam}
 
 -- Equal totals are written alike.
-pub same-totals : {m n : NonCanonicality} {o o' : List ℕ} {r : WriteAnswer} → m ≡ n → Wrote (bytes_of (count_numbers m)) o o' r
+pub same-totals : {m n : NonCanonicality} {o o' : List ℕ} {r : Result ℕ Refusal} → m ≡ n → Wrote (bytes_of (count_numbers m)) o o' r
     → Wrote (bytes_of (count_numbers n)) o o' r
 same-totals {m} {n} {o} {o'} {r} e w = subst (λ (k : NonCanonicality). Wrote (bytes_of (count_numbers k)) o o' r) e w
 
@@ -87,10 +85,10 @@ module _ (bs : List ℕ) where
         let g = feed_of A in
         let a = answer g (Feed.end out) in
         let p = cond (is_changed bs) (policy_of (later_policy bs)) g.policy in
-        ap (λ (t : Bool). glued bs (cond t (leaves A out (after g (Feed.end out) a) a) (refuses (Refused FeedEnded) A out)))
+        ap (λ (t : Bool). glued bs (cond t (leaves A out (after g (Feed.end out) a) a) (refuses (Err FeedEnded) A out)))
         (part-feed bs e) ∙ sym (end_same p g a)
         ∙ sym (ap (λ (t : Bool). cond t (leaves_after bs (end out) (after (under p g) (Feed.end out) a) a)
-        (refuses (Refused FeedEnded) bs out)) e)
+        (refuses (Err FeedEnded) bs out)) e)
 
   -- ---- the totals
 
@@ -108,28 +106,28 @@ module _ (bs : List ℕ) where
 
   module _ (policy : List ℕ) where
     pub change-9 : {s : State} → is_changing bs ≡ true → s ≡ state_of (feed_part bs) → s.ended ≡ true
-        → refuses (Refused FeedEnded) bs [] ≡ called_on bs (change policy)
+        → refuses (Err FeedEnded) bs [] ≡ called_on bs (change policy)
     unfolding called_on answer_to changing_feed feed_of
     change-9 e i t = let d : (state_of A).ended ≡ true = ap (λ (y : State). y.ended) (sym i) ∙ t in sym (simp (e, d))
 
     pub change-2 : {s : State} {r : Refusal} → is_changing bs ≡ true → s ≡ state_of (feed_part bs) → s.ended ≡ false
         → is_policy policy ≡ false
-        → r ≡ policy_fault policy → refuses (Refused r) bs [] ≡ called_on bs (change policy)
+        → r ≡ policy_fault policy → refuses (Err r) bs [] ≡ called_on bs (change policy)
     unfolding called_on answer_to changing_feed feed_of policy_refusal
     change-2 e i t o q =
         let d : (state_of A).ended ≡ false = ap (λ (y : State). y.ended) (sym i) ∙ t in
-        ap (λ (x : Refusal). refuses (Refused x) bs []) q ∙ sym (simp (e, d, o))
+        ap (λ (x : Refusal). refuses (Err x) bs []) q ∙ sym (simp (e, d, o))
 
     abbrev changed : ℕ → List ℕ
     changed n = cond (eqb n 0) (take 120 bs ++ (policy ++ (word_bytes 0 ++ policy))) (feed_part bs ++ (word_bytes 1 ++ policy))
 
     pub change-done : {s : State} {bs' : List ℕ} → is_changing bs ≡ true → s ≡ state_of (feed_part bs) → s.ended ≡ false
         → is_policy policy ≡ true → bs' ≡ changed s.held.base
-        → ◌≡◌ {A = Called} (record { answer = Written 0; feed = bs'; out = [] }) (called_on bs (change policy))
+        → ◌≡◌ {A = Called} (record { answer = Ok 0; feed = bs'; out = [] }) (called_on bs (change policy))
     unfolding called_on answer_to changing_feed feed_of policy_refusal
     change-done e i t o w =
         let d : (state_of A).ended ≡ false = ap (λ (y : State). y.ended) (sym i) ∙ t in
-        ap (λ (l : List ℕ). record { answer = Written 0; feed = l; out = [] }) (w ∙ ap (λ (y : State). changed y.held.base) i)
+        ap (λ (l : List ℕ). record { answer = Ok 0; feed = l; out = [] }) (w ∙ ap (λ (y : State). changed y.held.base) i)
         ∙ sym (simp (e, d, o))
 
     -- What is written.
@@ -185,12 +183,12 @@ module _ (bs : List ℕ) where
 
 module _ (policy feed : List ℕ) where
   pub begin_2 : {r : Refusal} → is_policy policy ≡ false → r ≡ policy_fault policy
-      → ◌≡◌ {A = After FeedAnswer ℕ} (unwritten (Refused r) feed) (begun_changing policy feed)
+      → ◌≡◌ {A = After (Result ℕ Refusal) ℕ} (unwritten (Err r) feed) (begun_changing policy feed)
   unfolding begun_changing policy_refusal
-  begin_2 e q = ap (λ (r : Refusal). unwritten (Refused r) feed) q ∙ sym (simp e)
+  begin_2 e q = ap (λ (r : Refusal). unwritten (Err r) feed) q ∙ sym (simp e)
 
   pub begin_8 : is_policy policy ≡ true → length feed < 528
-      → ◌≡◌ {A = After FeedAnswer ℕ} (unwritten (Refused (OutputTooShort 528)) feed) (begun_changing policy feed)
+      → ◌≡◌ {A = After (Result ℕ Refusal) ℕ} (unwritten (Err (OutputTooShort 528)) feed) (begun_changing policy feed)
   unfolding begun_changing policy_refusal
   begin_8 e h = sym (simp (e, lt-leb 528 (length feed) h))
 
@@ -211,7 +209,7 @@ module _ (policy feed : List ℕ) where
 
   pub begin_done : is_policy policy ≡ true → 528 ≤ length feed → {b₁ b₂ b₃ : List ℕ} → b₁ ≡ (begun policy feed).buffer
       → b₂ ≡ cond (has_room b₁ 320) (sets b₁ 320 (word_bytes 0)) b₁ → b₃ ≡ cond (room_for policy b₂ 328) (sets b₂ 328 policy) b₂
-      → ◌≡◌ {A = After FeedAnswer ℕ} (record { answer = Written 528; buffer = b₃ }) (begun_changing policy feed)
+      → ◌≡◌ {A = After (Result ℕ Refusal) ℕ} (record { answer = Ok 528; buffer = b₃ }) (begun_changing policy feed)
   unfolding begun_changing policy_refusal new_changing
   begin_done e h {b₁} {b₂} {b₃} a b d =
       let N = new_bytes policy in
@@ -242,4 +240,4 @@ module _ (policy feed : List ℕ) where
       let s : b₃ ≡ M ++ drop (length M) feed =
       b₃_is ∙ sym (append_assoc (N ++ w) policy Z) ∙ ap (λ (x : List ℕ). x ++ Z) (append_assoc N w policy)
       ∙ ap (λ (x : List ℕ). M ++ x) z in
-      ap (λ (x : List ℕ). record { answer = Written 528; buffer = x }) s ∙ sym (simp (e, le-leb 528 (length feed) h))
+      ap (λ (x : List ℕ). record { answer = Ok 528; buffer = x }) s ∙ sym (simp (e, le-leb 528 (length feed) h))

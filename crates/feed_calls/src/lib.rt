@@ -4,51 +4,49 @@
 #![tactic(auto)]
 
 ghost use Rattle.std.specs.Prelude.{◌≡◌, cond, [], ◌++◌, eqb, length, take};
-ghost use Rattle.base.specs.Answers.{EndsAs};
+ghost use Rattle.base.specs.Answers.{EndsAs, answer_row};
 ghost use Rattle.base.specs.Output.{Wrote};
 ghost use Rattle.base.specs.Words.{bytes_of, word_bytes};
 ghost use Rattle.formatter.specs.List.{count_numbers};
-ghost use Rattle.feed.specs.Bytes.{EndsCalled, feed_row};
+ghost use Rattle.feed.specs.Bytes.{EndsCalled};
 ghost use Rattle.policy_change.specs.Bytes.{begun_changing, called_on, changing_totals, feed_part};
 ghost use Rattle.policy_change.specs.Calls as Calls;
 
-use base::{Refusal, WriteAnswer};
-use feed::{FEED_BYTES, FeedAnswer, STATE_BYTES, read_state};
+use base::Refusal;
+use feed::{FEED_BYTES, STATE_BYTES, read_state};
 use policy::policy_bytes::{is_policy, policy_refusal};
 use policy_change::{CHANGING_BYTES, POLICY_AT, is_changing};
 
 // Begins a feed under a policy, or refuses.
-pub fn begin(policy: &[u8], feed: &mut [u8]) -> FeedAnswer
-    ensures { EndsAs feed_row (begun_changing policy.now feed.old) result feed.new }
+pub fn begin(policy: &[u8], feed: &mut [u8]) -> Result<usize, Refusal>
+    ensures { EndsAs answer_row (begun_changing policy.now feed.old) result feed.new }
 {
     if !is_policy(policy) {
-        return FeedAnswer::Refused(policy_refusal(policy));
+        return Err(policy_refusal(policy));
     }
     if feed.len() < CHANGING_BYTES {
-        return FeedAnswer::Refused(Refusal::OutputTooShort {
+        return Err(Refusal::OutputTooShort {
             wanted: CHANGING_BYTES,
         });
     }
-    feeding::begin(policy, feed);
+    let _ = feeding::begin(policy, feed);
     base::write_word(feed, FEED_BYTES, 0);
     base::write_bytes(feed, POLICY_AT, policy);
-    FeedAnswer::Written {
-        len: CHANGING_BYTES,
-    }
+    Ok(CHANGING_BYTES)
 }
 
 // Ends a feed, or refuses.
-pub fn end(feed: &mut [u8], out: &mut [u8]) -> FeedAnswer
+pub fn end(feed: &mut [u8], out: &mut [u8]) -> Result<usize, Refusal>
     ensures { EndsCalled (called_on feed.old (Calls.end out.old)) result feed.new out.new }
 {
     if !is_changing(feed) {
-        return FeedAnswer::Refused(Refusal::FeedEnded);
+        return Err(Refusal::FeedEnded);
     }
     feeding::end(&mut feed[0..FEED_BYTES], out)
 }
 
 // Writes the eight totals, or refuses. Bytes that are no feed have totals of 0.
-pub fn totals(feed: &[u8], out: &mut [u8]) -> WriteAnswer
+pub fn totals(feed: &[u8], out: &mut [u8]) -> Result<usize, Refusal>
     ensures { Wrote (bytes_of (count_numbers (changing_totals feed.now))) out.old out.new result }
 {
     if !is_changing(feed) {
@@ -57,8 +55,8 @@ pub fn totals(feed: &[u8], out: &mut [u8]) -> WriteAnswer
     feeding::totals(&feed[0..FEED_BYTES], out)
 }
 
-// Writes a policy as the one in force. If a base is held, the feed keeps the policy that judges it. Returns whether none is held.
-fn put_policy(feed: &mut [u8], policy: &[u8], base: u32) -> bool
+// Writes a policy as the one in force. If a base is held, the feed keeps the policy that judges it.
+fn put_policy(feed: &mut [u8], policy: &[u8], base: u32)
     requires { (length feed.old ≡ 528) × (length policy.now ≡ 200) }
     ensures { feed.new ≡ cond (eqb base 0)
         (take 120 feed.old ++ (policy.now ++ (word_bytes 0 ++ policy.now)))
@@ -67,29 +65,27 @@ fn put_policy(feed: &mut [u8], policy: &[u8], base: u32) -> bool
     if base != 0 {
         base::write_word(feed, FEED_BYTES, 1);
         base::write_bytes(feed, POLICY_AT, policy);
-        return false;
+        return;
     }
     base::write_bytes(feed, STATE_BYTES, policy);
     base::write_word(feed, FEED_BYTES, 0);
     base::write_bytes(feed, POLICY_AT, policy);
-    true
 }
 
 // Changes the policy, or refuses.
-pub fn change(feed: &mut [u8], policy: &[u8]) -> FeedAnswer
+pub fn change(feed: &mut [u8], policy: &[u8]) -> Result<usize, Refusal>
     ensures { EndsCalled (called_on feed.old (Calls.change policy.now)) result feed.new [] }
 {
     if !is_changing(feed) {
-        return FeedAnswer::Refused(Refusal::FeedEnded);
+        return Err(Refusal::FeedEnded);
     }
     let state = read_state(feed);
     if state.ended {
-        return FeedAnswer::Refused(Refusal::FeedEnded);
+        return Err(Refusal::FeedEnded);
     }
     if !is_policy(policy) {
-        return FeedAnswer::Refused(policy_refusal(policy));
+        return Err(policy_refusal(policy));
     }
-    let held = state.held;
-    put_policy(feed, policy, held.base);
-    FeedAnswer::Written { len: 0 }
+    put_policy(feed, policy, state.held.base);
+    Ok(0)
 }

@@ -1,4 +1,5 @@
 -- A new feed: its bytes, and the outcome of `begin`.
+use Rattle.std.specs.Prelude.{Ok, Err, None, Result}
 use mathlib.Core.Path.{◌≡◌, ap, sym, ◌∙◌}
 use mathlib.Core.Bool.{Bool, true, false, cond}
 use mathlib.Core.List.{List, ◌++◌}
@@ -15,28 +16,25 @@ use Rattle.base.specs.declared.Refusal.{Refusal}
 use Rattle.base.specs.declared.Refusal.TheVariants.{OutputTooShort}
 use Rattle.base.proofs.Output.{bytes_put}
 use Rattle.base.proofs.Writer.{sets_append}
-use Rattle.emoji.specs.declared.presentation.FromSelector.TheVariants.{NoSelector}
 use Rattle.policy.specs.PolicyBytes.{is_policy, policy_fault, policy_of, policy_refusal}
 use Rattle.policy.specs.declared.Policy.{Policy}
 use Rattle.analysis.specs.Counts.{empty}
 use Rattle.analysis.specs.declared.types.NonCanonicality.{NonCanonicality}
 use Rattle.feed.specs.Bytes.{begun, bytes_for, new_bytes, state_for, state_words}
 use Rattle.feed.specs.Calls.{new_feed}
-use Rattle.feed.specs.declared.FeedAnswer.{FeedAnswer}
-use Rattle.feed.specs.declared.FeedAnswer.TheVariants.{Refused, Written}
 use Rattle.feed.specs.declared.State.{State}
 use Rattle.feed.proofs.Kept.{policy_length_lem}
 use Rattle.feed.proofs.Writing.{words_many}
 
 pub new_state : (p : Policy) {n : NonCanonicality} → n ≡ empty
     → ◌≡◌ {A = State}
-    (record { ended = false; held = record { base = 0; first = NoSelector; count = 0 }; rest_len = 0; rest = 0; len = 0; counts = n })
+    (record { ended = false; held = record { base = 0; first = None; count = 0 }; rest_len = 0; rest = 0; len = 0; counts = n })
     (state_for (new_feed p))
 unfolding state_for number
 new_state p e =
     λ i. record {
       ended = false;
-      held = record { base = 0; first = NoSelector; count = 0 };
+      held = record { base = 0; first = None; count = 0 };
       rest_len = 0;
       rest = 0;
       len = 0;
@@ -54,19 +52,19 @@ state_put s o o' r h w =
 
 module _ (policy feed : List ℕ) where
   pub begin_2 : {r : Refusal} → is_policy policy ≡ false → r ≡ policy_fault policy
-      → ◌≡◌ {A = After FeedAnswer ℕ} (unwritten (Refused r) feed) (begun policy feed)
+      → ◌≡◌ {A = After (Result ℕ Refusal) ℕ} (unwritten (Err r) feed) (begun policy feed)
   unfolding begun policy_refusal
-  begin_2 e q = ap (λ (r : Refusal). unwritten (Refused r) feed) q ∙ sym (simp e)
+  begin_2 e q = ap (λ (r : Refusal). unwritten (Err r) feed) q ∙ sym (simp e)
 
   pub begin_8 : is_policy policy ≡ true → length feed < 320
-      → ◌≡◌ {A = After FeedAnswer ℕ} (unwritten (Refused (OutputTooShort 320)) feed) (begun policy feed)
+      → ◌≡◌ {A = After (Result ℕ Refusal) ℕ} (unwritten (Err (OutputTooShort 320)) feed) (begun policy feed)
   unfolding begun policy_refusal
   begin_8 e h = sym (simp (e, lt-leb 320 (length feed) h))
 
   pub begin_done : is_policy policy ≡ true → 320 ≤ length feed → {o o' : List ℕ}
       → PutAt feed 0 (bytes_of (state_words (state_for (new_feed (policy_of policy))))) o 120
       → o' ≡ cond (room_for policy o 120) (sets o 120 policy) o
-      → ◌≡◌ {A = After FeedAnswer ℕ} (record { answer = Written 320; buffer = o' }) (begun policy feed)
+      → ◌≡◌ {A = After (Result ℕ Refusal) ℕ} (record { answer = Ok 320; buffer = o' }) (begun policy feed)
   unfolding begun policy_refusal new_bytes bytes_for
   begin_done e h {o} {o'} p q =
       let W = bytes_of (state_words (state_for (new_feed (policy_of policy)))) in
@@ -84,4 +82,4 @@ module _ (policy feed : List ℕ) where
       (omega arith) in
       let y : 0 + length (W ++ policy) ≡ length (W ++ policy) = omega arith in
       let a : o' ≡ (W ++ policy) ++ drop (length (W ++ policy)) feed = d ∙ g ∙ ap (λ (i : ℕ). (W ++ policy) ++ drop i feed) y in
-      ap (λ (x : List ℕ). record { answer = Written 320; buffer = x }) a ∙ sym (simp (e, le-leb 320 (length feed) h))
+      ap (λ (x : List ℕ). record { answer = Ok 320; buffer = x }) a ∙ sym (simp (e, le-leb 320 (length feed) h))

@@ -1,4 +1,5 @@
 -- Pieces of ASCII that are copied: the words of a feed that copies ASCII, what such a feed does with ASCII, and its bytes after a piece.
+use Rattle.std.specs.Prelude.{Ok, None}
 use mathlib.Core.Path.{◌≡◌, refl, ap, ap₂, sym, ◌∙◌, subst}
 use mathlib.Core.Logic.{◌⊎◌, ⊎_elim}
 use mathlib.Core.Bool.{Bool, true, false, cond, not}
@@ -23,7 +24,6 @@ use Rattle.emoji.specs.Presentation.{as_selector, from_selector}
 use Rattle.emoji.specs.Unicode.{has_variation_sequence}
 use Rattle.emoji.specs.Tables.{member}
 use Rattle.emoji.specs.UnicodeData.{variation_entries}
-use Rattle.emoji.specs.declared.presentation.FromSelector.TheVariants.{NoSelector}
 use Rattle.policy.specs.PolicyBytes.{ascii_keys_bare, is_policy, words_from}
 use Rattle.policy.specs.declared.Policy.{Policy}
 use Rattle.policy.specs.declared.SingletonRule.{SingletonRule}
@@ -57,7 +57,6 @@ use Rattle.feed.specs.Bytes.{
 }
 use Rattle.feed.specs.Feed.{Effect, Pending, fed_as, held_after_of, join_effects, no_effect, settle, take_char, take_chars, written_alone}
 use Rattle.feed.specs.Calls.{piece}
-use Rattle.feed.specs.declared.FeedAnswer.TheVariants.{Written}
 use Rattle.feed.specs.declared.State.{State}
 use Rattle.feed.proofs.Calls.{R}
 use Rattle.feed.proofs.Kept.{entry_some}
@@ -80,7 +79,7 @@ and_next P {a} {k} f q j h l =
 
 -- ---- ASCII characters and bytes
 
-no_selector : (c : ℕ) → c ≤ 0x7F → from_selector c ≡ NoSelector
+no_selector : (c : ℕ) → c ≤ 0x7F → from_selector c ≡ None
 unfolding from_selector
 no_selector c h = simp (ne_eqb c 0xFE0E (λ e. omega arith), ne_eqb c 0xFE0F (λ e. omega arith))
 
@@ -482,7 +481,7 @@ pub copy_done : (bs b out : List ℕ) {last len e : ℕ} {bs' out' : List ℕ} �
     → last ≡ held_entry (get_or b (length b - 1) 0)
     → PutAt out 0 (held_list (word_at 1 bs) ++ take (copied_length (length b) last) b) out' e
     → len ≡ word_at 6 bs → bs' ≡ sets (sets bs 8 (word_bytes last)) 48 (word_bytes (len + length b))
-    → ◌≡◌ {A = Called} (record { answer = Written e; feed = bs'; out = out' }) (called bs (piece b out))
+    → ◌≡◌ {A = Called} (record { answer = Ok e; feed = bs'; out = out' }) (called bs (piece b out))
 unfolding little_endian
 copy_done bs b out {last} {len} {e} {bs'} {out'} k q l w n v =
     piece-done bs b out k.is_feed_lem (sym k.state) refl q.short (sym (valid_ascii b q.ascii))

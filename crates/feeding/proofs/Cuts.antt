@@ -1,4 +1,5 @@
 -- Characters taken in three parts: selectors, characters that are formatted by themselves, and a last base with its selectors.
+use Rattle.std.specs.Prelude.{Some, None, Option}
 use mathlib.Core.Path.{◌≡◌, refl, ap, ap₂, sym, ◌∙◌}
 use mathlib.Core.Bool.{Bool, true, false}
 use mathlib.Core.List.{List, [], ◌∷◌, ◌++◌, append_assoc, append-nil, map}
@@ -8,8 +9,6 @@ use native.Mathlib.Omega.{arith}
 use lib.ListN.{length, length-append}
 use Rattle.emoji.specs.Presentation.{as_selector, is_selector}
 use Rattle.emoji.specs.Unicode.{has_variation_sequence}
-use Rattle.emoji.specs.declared.presentation.FromSelector.{FromSelector}
-use Rattle.emoji.specs.declared.presentation.FromSelector.TheVariants.{NoSelector, Selector}
 use Rattle.emoji.specs.declared.presentation.Presentation.{Presentation}
 use Rattle.policy.specs.declared.Policy.{Policy}
 use Rattle.scanner.specs.Classes.{class_of}
@@ -65,7 +64,7 @@ fed_append p (c ∷ a) b = ap (λ (l : List Fed). record { char = c; policy = p 
 module _ (p : Policy) where
   -- ---- a character that is no selector
 
-  abbrev taking : Pending → ℕ → List ℕ → FromSelector → R
+  abbrev taking : Pending → ℕ → List ℕ → Option Presentation → R
   taking s x xs y =
       let r = take_char p s x y in
       let q = take_chars r.0 (fed_as p xs) in
@@ -89,7 +88,7 @@ module _ (p : Policy) where
           counts = S.counts ⊕ sym (empty-plus q.1.counts) i;
         },
       ))
-      ∙ ap (λ (y : FromSelector). ((taking nothing x xs y).0, join_effects S (taking nothing x xs y).1)) (sym f)
+      ∙ ap (λ (y : Option Presentation). ((taking nothing x xs y).0, join_effects S (taking nothing x xs y).1)) (sym f)
 
   -- ---- selectors
 
@@ -105,24 +104,24 @@ module _ (p : Policy) where
       one_more : (n : ℕ) → 1 + n ≡ suc n
       one_more n = omega arith
 
-  abbrev first_with : FromSelector → List Presentation → FromSelector
-  first_with NoSelector qs = first_asked qs
-  first_with (Selector r) qs = Selector r
+  abbrev first_with : Option Presentation → List Presentation → Option Presentation
+  first_with None qs = first_asked qs
+  first_with (Some r) qs = Some r
 
-  first_more : (f : FromSelector) (q : Presentation) (qs : List Presentation) → first_with (first_of f q) qs ≡ first_with f (q ∷ qs)
+  first_more : (f : Option Presentation) (q : Presentation) (qs : List Presentation) → first_with (first_of f q) qs ≡ first_with f (q ∷ qs)
   unfolding first_asked
-  first_more NoSelector q qs = refl
-  first_more (Selector r) q qs = refl
+  first_more None q qs = refl
+  first_more (Some r) q qs = refl
 
-  selectors_with : (c : ℕ) (f : FromSelector) (n : ℕ) (qs : List Presentation)
+  selectors_with : (c : ℕ) (f : Option Presentation) (n : ℕ) (qs : List Presentation)
       → take_chars (base p c f n) (fed_as p (map as_selector qs)) ≡ (base p c (first_with f qs) (n + length qs), no_effect)
   unfolding take_chars take_char take_selector first_asked
-  selectors_with c NoSelector n [] = ap (λ (m : ℕ). (base p c NoSelector m, no_effect)) (omega arith)
-  selectors_with c (Selector r) n [] = ap (λ (m : ℕ). (base p c (Selector r) m, no_effect)) (omega arith)
+  selectors_with c None n [] = ap (λ (m : ℕ). (base p c None m, no_effect)) (omega arith)
+  selectors_with c (Some r) n [] = ap (λ (m : ℕ). (base p c (Some r) m, no_effect)) (omega arith)
   selectors_with c f n (q ∷ qs) =
       ap (taking (base p c f n) (as_selector q) (map as_selector qs)) (from_selector_lem q)
       ∙ ap (λ (r : R). (r.0, join_effects no_effect r.1)) (selectors_with c (first_of f q) (suc n) qs)
-      ∙ ap₂ (λ (g : FromSelector) (m : ℕ). (base p c g m, no_effect)) (first_more f q qs) (omega arith)
+      ∙ ap₂ (λ (g : Option Presentation) (m : ℕ). (base p c g m, no_effect)) (first_more f q qs) (omega arith)
 
   -- A base with its selectors, after nothing.
   base_alone : (c : ℕ) (qs : List Presentation) → is_selector c ≡ false → has_variation_sequence c ≡ true
@@ -132,7 +131,7 @@ module _ (p : Policy) where
       ap (taking nothing c (map as_selector qs)) (from-other c e)
       ∙ ap (λ (b : Bool). let q = take_chars (held_after_of p c b) (fed_as p (map as_selector qs)) in
       (q.0, join_effects (record { text = [] ++ written_alone c b; counts = empty }) q.1)) v
-      ∙ ap (λ (r : R). (r.0, join_effects no_effect r.1)) (selectors_with c NoSelector 0 qs)
+      ∙ ap (λ (r : R). (r.0, join_effects no_effect r.1)) (selectors_with c None 0 qs)
       ∙ ap (λ (n : ℕ). (base p c (first_asked qs) n, no_effect)) (zero-add (length qs))
 
   -- After a character without an entry, and selectors, nothing is held.
@@ -140,7 +139,7 @@ module _ (p : Policy) where
       → (take_chars s (fed_as p (c ∷ map as_selector qs))).0 ≡ nothing
   unfolding take_chars take_char settle
   none_after s c qs e v =
-      ap (λ (y : FromSelector). (taking s c (map as_selector qs) y).0) (from-other c e)
+      ap (λ (y : Option Presentation). (taking s c (map as_selector qs) y).0) (from-other c e)
       ∙ ap (λ (b : Bool). (take_chars (held_after_of p c b) (fed_as p (map as_selector qs))).0) v
       ∙ ap (λ (r : R). r.0) (selectors_alone qs)
 

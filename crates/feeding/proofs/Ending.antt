@@ -1,4 +1,6 @@
 -- The totals, and the outcomes of the end, by its tests.
+use Rattle.base.specs.declared.Refusal.{Refusal}
+use Rattle.std.specs.Prelude.{Ok, Err, Result}
 use mathlib.Core.Path.{◌≡◌, refl, ap, ap₂, sym, ◌∙◌, subst}
 use mathlib.Core.Bool.{Bool, true, false, cond}
 use mathlib.Core.List.{List, ◌++◌}
@@ -8,7 +10,6 @@ use lib.ListN.{drop, length}
 use lib.Seq.{sets, sets-eq}
 use borrow.Author.Tests.{eq-eqb, le-leb, leb-false, leb-true, lt-leb, ne_eqb}
 use Rattle.base.specs.Output.{PutAt, WritesAt, Wrote, room_for}
-use Rattle.base.specs.declared.WriteAnswer.TheVariants as Write
 use Rattle.base.proofs.Output.{bytes_put, too_short, wrote}
 use Rattle.base.specs.Words.{little_endian, number}
 use Rattle.base.specs.Words.{bytes_of}
@@ -24,8 +25,6 @@ use Rattle.feed.specs.Feed.{settle}
 use Rattle.feed.specs.Calls.{after_end, answer, end, totals_now}
 use Rattle.feed.proofs.PieceRoom.{held-few, settle_bytes}
 use Rattle.feed.specs.declared.State.{State}
-use Rattle.feed.specs.declared.FeedAnswer.{FeedAnswer}
-use Rattle.feed.specs.declared.FeedAnswer.TheVariants.{Refused, Written}
 use Rattle.feed.specs.Bytes.{
   Called,
   EndsCalled,
@@ -51,7 +50,7 @@ length_bytes_of zero x = refl
 length_bytes_of (suc n) x = ap suc (length_bytes_of n (x / 256))
 
 -- The answer and both buffers that the definition gives.
-pub ends-called : {said : Called} {r : FeedAnswer} {feed out : List ℕ}
+pub ends-called : {said : Called} {r : Result ℕ Refusal} {feed out : List ℕ}
     → ◌≡◌ {A = Called} (record { answer = r; feed = feed; out = out }) said
     → EndsCalled said r feed out
 ends-called e = record {
@@ -93,38 +92,38 @@ module _ (n : NonCanonicality) {ws : List ℕ} (e : ws ≡ count_numbers n) (out
   writes : WritesAt bytes out 0 r out'
   writes = subst (λ (l : List ℕ). WritesAt (bytes_of l) out 0 r out') e w
 
-  pub totals-written : r ≡ true → Wrote bytes out out' (Write.Written 64)
+  pub totals-written : r ≡ true → Wrote bytes out out' (Ok 64)
   totals-written t =
       let l = leb-true (0 + length bytes) (length out) (sym writes.0 ∙ t) in
       let m = eight_bytes n in
       wrote (sym m) (omega arith) (bytes_put out out' 0 bytes (omega arith) writes.1)
 
-  pub totals-short : r ≡ false → Wrote bytes out out' (Write.TooShort 64)
+  pub totals-short : r ≡ false → Wrote bytes out out' (Err (OutputTooShort 64))
   totals-short t =
       let f : room_for bytes out 0 ≡ false = sym writes.0 ∙ t in
       let l = leb-false (0 + length bytes) (length out) f in
       let m = eight_bytes n in
       let s : out' ≡ out = writes.1 ∙ ap (λ (b : Bool). cond b (sets out 0 bytes) out) f in
-      subst (λ (o : List ℕ). Wrote bytes out o (Write.TooShort 64)) (sym s) (too_short bytes (sym m) (omega arith))
+      subst (λ (o : List ℕ). Wrote bytes out o (Err (OutputTooShort 64))) (sym s) (too_short bytes (sym m) (omega arith))
 
 -- ---- the end
 
 module _ (bs out : List ℕ) where
-  pub no_feed_end : is_feed bs ≡ false → refuses (Refused FeedEnded) bs out ≡ called bs (end out)
+  pub no_feed_end : is_feed bs ≡ false → refuses (Err FeedEnded) bs out ≡ called bs (end out)
   unfolding called
   no_feed_end e = sym (simp e)
 
-  pub end_9 : is_feed bs ≡ true → (state_of bs).ended ≡ true → refuses (Refused FeedEnded) bs out ≡ called bs (end out)
+  pub end_9 : is_feed bs ≡ true → (state_of bs).ended ≡ true → refuses (Err FeedEnded) bs out ≡ called bs (end out)
   unfolding called answer feed_of
   end_9 e t = sym (simp (e, t))
 
   pub end_10 : is_feed bs ≡ true → (state_of bs).ended ≡ false → ((state_of bs).rest_len ≡ 0 → ⊥)
-      → refuses (Refused UnfinishedCharacter) bs out ≡ called bs (end out)
+      → refuses (Err UnfinishedCharacter) bs out ≡ called bs (end out)
   unfolding called answer feed_of
   end_10 e t n = sym (simp (e, t, length_bytes_of, ne_eqb (state_of bs).rest_len 0 n))
 
   pub end_8 : is_feed bs ≡ true → (state_of bs).ended ≡ false → (state_of bs).rest_len ≡ 0 → length out < 16
-      → refuses (Refused (OutputTooShort 16)) bs out ≡ called bs (end out)
+      → refuses (Err (OutputTooShort 16)) bs out ≡ called bs (end out)
   unfolding called answer feed_of
   end_8 e t n l = sym (simp (e, t, length_bytes_of, eq-eqb (state_of bs).rest_len 0 n, lt-leb 16 (length out) l))
 
@@ -138,7 +137,7 @@ module _ (bs out : List ℕ) where
 
   end_is : is_feed bs ≡ true → (state_of bs).ended ≡ false → (state_of bs).rest_len ≡ 0 → 16 ≤ length out
       → called bs (end out) ≡ record {
-        answer = Written (length last);
+        answer = Ok (length last);
         feed = bytes_for (after_end (feed_of bs)) (drop 120 bs);
         out =
             last ++ drop (length last) out;
@@ -152,7 +151,7 @@ module _ (bs out : List ℕ) where
       (pending_of (policy_part bs) s.held) other).counts
       → m ≡ capped_sum s.counts h
       → PutAt bs 0 (bytes_of (state_words (ended_state s.len m))) bs' 120
-      → ◌≡◌ {A = Called} (record { answer = Written r; feed = bs'; out = out' }) (called bs (end out))
+      → ◌≡◌ {A = Called} (record { answer = Ok r; feed = bs'; out = out' }) (called bs (end out))
   unfolding bytes_for state_for feed_of number
   end_done {s} {bs'} {out'} {r} {h} {m} e p t n l u q w v =
       let S = state_of bs in
@@ -171,5 +170,5 @@ module _ (bs out : List ℕ) where
       let g : bs' ≡ bytes_for (after_end (feed_of bs)) (drop 120 bs) =
       f ∙ ap (λ (i : ℕ). bytes_of (state_words (ended_state s.len m)) ++ drop i bs) (words_many (ended_state s.len m))
       ∙ ap (λ (y : State). bytes_of (state_words y) ++ drop 120 bs) E in
-      (λ i. record { answer = Written (a i); feed = g i; out = c i })
+      (λ i. record { answer = Ok (a i); feed = g i; out = c i })
       ∙ sym (end_is e (ap (λ (y : State). y.ended) (sym p) ∙ t) (ap (λ (y : State). y.rest_len) (sym p) ∙ n) l)

@@ -1,5 +1,6 @@
 -- A call on the first 320 bytes of a feed whose policy may change, and the call on all of it. They are the same for a piece, if the policy
 -- has not changed since the held base was fed.
+use Rattle.std.specs.Prelude.{Ok, Err, Result}
 use mathlib.Core.Path.{◌≡◌, refl, ap, ap₂, sym, ◌∙◌, subst}
 use mathlib.Core.Bool.{Bool, true, false, cond, not, ◌&&◌, ◌||◌}
 use mathlib.Core.List.{List, ◌++◌}
@@ -13,8 +14,6 @@ use Rattle.policy.specs.PolicyBytes.{is_policy, policy_of}
 use Rattle.feed.specs.Calls.{Answer, Feed, after, answer, refused, wrote}
 use Rattle.feed.specs.Calls as Feed
 use Rattle.feed.specs.Bytes.{Called, EndsCalled, called, feed_of, is_feed, leaves, refuses}
-use Rattle.feed.specs.declared.FeedAnswer.{FeedAnswer}
-use Rattle.feed.specs.declared.FeedAnswer.TheVariants.{Refused, Written}
 use Rattle.policy_change.specs.Calls.{Call, answer_to, piece, under}
 use Rattle.policy_change.specs.Bytes.{
   called_on,
@@ -46,14 +45,14 @@ module _ (bs : List ℕ) where
   abbrev A : List ℕ
   A = feed_part bs
 
-  pub no_feed : (c : Call) → is_changing bs ≡ false → refuses (Refused FeedEnded) bs (out_of c) ≡ called_on bs c
+  pub no_feed : (c : Call) → is_changing bs ≡ false → refuses (Err FeedEnded) bs (out_of c) ≡ called_on bs c
   unfolding called_on
   no_feed c e = sym (simp e)
 
   abbrev pub glued : Called → Called
   glued r = record { answer = r.answer; feed = r.feed ++ drop 320 bs; out = r.out }
 
-  pub glue_ends : {x said : Called} {r : FeedAnswer} {ys out : List ℕ} → EndsCalled x r ys out → glued x ≡ said
+  pub glue_ends : {x said : Called} {r : Result ℕ Refusal} {ys out : List ℕ} → EndsCalled x r ys out → glued x ≡ said
       → EndsCalled said r (ys ++ drop 320 bs) out
   glue_ends {x} {said} {r} {ys} {out} h e =
       subst (λ (y : Called). EndsCalled y r (ys ++ drop 320 bs) out) e (record {
@@ -62,8 +61,8 @@ module _ (bs : List ℕ) where
         out_bytes = h.out_bytes;
       })
 
-  pub refused_glued : (r : Refusal) (out : List ℕ) → refuses (Refused r) bs out ≡ glued (refuses (Refused r) A out)
-  refused_glued r out = ap (λ (l : List ℕ). refuses (Refused r) l out) (sym (take-append-drop 320 bs))
+  pub refused_glued : (r : Refusal) (out : List ℕ) → refuses (Err r) bs out ≡ glued (refuses (Err r) A out)
+  refused_glued r out = ap (λ (l : List ℕ). refuses (Err r) l out) (sym (take-append-drop 320 bs))
 
   -- A piece, if the policy has not changed.
   module _ (h : length bs ≡ 528) (c : is_changed bs ≡ false) (b out : List ℕ) where
@@ -82,7 +81,7 @@ module _ (bs : List ℕ) where
     piece-same g (wrote o) =
         let f = after g (Feed.piece b out) (wrote o) in
         ap (λ (t : Bool). record {
-          answer = Written (length o);
+          answer = Ok (length o);
           feed = cond (t && not (only_selectors (chars ((changing_feed bs).rest ++ b)))) (settled_bytes bs f) (kept_bytes bs f);
           out = o ++ drop (length o) out;
         }) c
@@ -92,11 +91,11 @@ module _ (bs : List ℕ) where
     unfolding called_on called answer_to
     piece-glued =
         sym (ap₂ (λ (t : Bool) (g : Feed). cond t (leaves_after bs (piece b out) (after g (Feed.piece b out) (answer g (Feed.piece b out)))
-        (answer g (Feed.piece b out))) (refuses (Refused FeedEnded) bs out)) same_test same-feed
+        (answer g (Feed.piece b out))) (refuses (Err FeedEnded) bs out)) same_test same-feed
         ∙ go (is_feed A) (answer (feed_of A) (Feed.piece b out)))
       where
         go : (t : Bool) (a : Answer) → cond t (leaves_after bs (piece b out) (after (feed_of A) (Feed.piece b out) a) a)
-            (refuses (Refused FeedEnded) bs out)
-            ≡ glued (cond t (leaves A out (after (feed_of A) (Feed.piece b out) a) a) (refuses (Refused FeedEnded) A out))
+            (refuses (Err FeedEnded) bs out)
+            ≡ glued (cond t (leaves A out (after (feed_of A) (Feed.piece b out) a) a) (refuses (Err FeedEnded) A out))
         go true a = piece-same (feed_of A) a
         go false a = refused_glued FeedEnded out

@@ -1,4 +1,5 @@
 -- The parts of a piece one after the other: the completed character, selectors, and the rest.
+use Rattle.std.specs.Prelude.{Some}
 use mathlib.Core.Path.{◌≡◌, refl, ap, sym, ◌∙◌, subst}
 use mathlib.Core.Bool.{Bool, true, false, cond}
 use mathlib.Core.List.{List, [], ◌∷◌, ◌++◌, append_assoc, append-nil, map}
@@ -9,7 +10,6 @@ use lib.ListN.{drop, length, length-append, length-map}
 use Rattle.utf8.specs.Rfc3629.{chars, encode_all, is_scalar, valid_up_to_of}
 use Rattle.utf8.proofs.Texts.{encode_all_append, length_encode_all_chars}
 use Rattle.emoji.specs.Presentation.{as_selector}
-use Rattle.emoji.specs.declared.presentation.FromSelector.TheVariants.{Selector}
 use Rattle.emoji.specs.declared.presentation.Presentation.{Presentation}
 use Rattle.policy.specs.PolicyBytes.{policy_of}
 use Rattle.policy.specs.declared.Policy.{Policy}
@@ -78,7 +78,7 @@ module _ {piece : List ℕ} {from at : ℕ} {t r : Taken} (g : SelectorsTaken pi
       )
 
   -- One more.
-  module _ {q : Presentation} (e : first_selector (chars (drop at piece)) ≡ Selector q) where
+  module _ {q : Presentation} (e : first_selector (chars (drop at piece)) ≡ Some q) where
     pub selectors_room : at + 3 ≤ length piece
     selectors_room = (selector_here piece at q e).read.room
 

@@ -1,5 +1,6 @@
 -- A piece for a feed whose policy has changed since its held base was fed: selectors at its front, the character that settles the held
 -- base, and the characters from there on.
+use Rattle.std.specs.Prelude.{Some, None, Option}
 use mathlib.Core.Path.{◌≡◌, refl, ap, ap₂, sym, ◌∙◌, subst}
 use mathlib.Core.Bool.{Bool, true, false, not, ◌&&◌, true≢false}
 use mathlib.Core.List.{List, [], ◌∷◌, ◌++◌, append_assoc, append-nil, map}
@@ -14,8 +15,6 @@ use Rattle.utf8.proofs.Texts.{encode_all_append, length_encode_all_chars}
 use Rattle.utf8.proofs.Scalars.{is_scalar_low}
 use Rattle.emoji.specs.Presentation.{as_selector, from_selector, is_selector}
 use Rattle.emoji.specs.Unicode.{has_variation_sequence}
-use Rattle.emoji.specs.declared.presentation.FromSelector.{FromSelector}
-use Rattle.emoji.specs.declared.presentation.FromSelector.TheVariants.{NoSelector, Selector}
 use Rattle.emoji.specs.declared.presentation.Presentation.{Presentation}
 use Rattle.policy.specs.declared.Policy.{Policy}
 use Rattle.scanner.specs.Classes.{class_of}
@@ -81,7 +80,7 @@ only_append (c ∷ a) b e =
     let t = both_true (is_selector c) (only_selectors a) e in
     ap (λ (x : Bool). x && only_selectors (a ++ b)) t.0 ∙ only_append a b t.1
 
-only-other : (d : ℕ) (ds : List ℕ) → from_selector d ≡ NoSelector → only_selectors (d ∷ ds) ≡ false
+only-other : (d : ℕ) (ds : List ℕ) → from_selector d ≡ None → only_selectors (d ∷ ds) ≡ false
 unfolding only_selectors
 only-other d ds e = ap (λ (x : Bool). x && only_selectors ds) (other_value d e)
 
@@ -90,7 +89,7 @@ pub first-none : (n : ℕ) → n ≡ 0 → only_selectors (char_of n) ≡ true
 unfolding only_selectors
 first-none n z = ap only_selectors (char-none n z)
 
-pub first_selector_lem : (n : ℕ) (q : Presentation) → (n ≡ 0 → ⊥) → from_selector (n / 8) ≡ Selector q → only_selectors (char_of n) ≡ true
+pub first_selector_lem : (n : ℕ) (q : Presentation) → (n ≡ 0 → ⊥) → from_selector (n / 8) ≡ Some q → only_selectors (char_of n) ≡ true
 unfolding only_selectors
 first_selector_lem n q z e =
     ap only_selectors (char-some n z) ∙ ap (λ (c : ℕ). is_selector c && true) (selector_value (n / 8) q e)
@@ -112,7 +111,7 @@ selectors_text s p (c ∷ cs) e =
   where
     one : CharIs c → is_selector c ≡ true → (take_char p s c (from_selector c)).1.text ≡ []
     one (a_selector q d) i =
-        ap (λ (y : FromSelector). (take_char p s c y).1.text) (ap from_selector d ∙ from_selector_lem q) ∙ selector_text s q
+        ap (λ (y : Option Presentation). (take_char p s c y).1.text) (ap from_selector d ∙ from_selector_lem q) ∙ selector_text s q
     one (no_selector d) i = absurd (true≢false (sym i ∙ d))
 
 -- There is room for nothing.
@@ -123,7 +122,7 @@ front_fits s p cs m e = omega (arith, ap (λ (l : List ℕ). length (encode_all 
 
 -- ---- the character that settles the held base
 
-module _ (p : Policy) (d : ℕ) (ds : List ℕ) (e : from_selector d ≡ NoSelector) where
+module _ (p : Policy) (d : ℕ) (ds : List ℕ) (e : from_selector d ≡ None) where
   abbrev H : Pending
   H = held_after_of p d (has_variation_sequence d)
 
@@ -138,7 +137,7 @@ module _ (p : Policy) (d : ℕ) (ds : List ℕ) (e : from_selector d ≡ NoSelec
   unfolding take_chars take_char
   alone s =
       ap (λ (r : R). ((take_chars r.0 (fed_as p ds)).0, join_effects r.1 (take_chars r.0 (fed_as p ds)).1))
-      (ap (λ (y : FromSelector). take_char p s d y) e)
+      (ap (λ (y : Option Presentation). take_char p s d y) e)
 
   -- It settles what is held, and is taken as where nothing is held.
   pub settle-first : (s : Pending) → take_chars s (fed_as p (d ∷ ds))
@@ -214,7 +213,7 @@ module _ (q p : Policy) (h : Held) (n : NonCanonicality) where
       settled = sym (ap (λ (l : List ℕ). not (only_selectors l)) c ∙ ap not f.only);
     }
 
-    module _ (d : ℕ) (ds : List ℕ) (e : from_selector d ≡ NoSelector) where
+    module _ (d : ℕ) (ds : List ℕ) (e : from_selector d ≡ None) where
       abbrev Z : List Fed
       Z = fed_as p (d ∷ ds)
 
@@ -350,10 +349,10 @@ pub record FirstAt (text : List ℕ) (at : ℕ) : Type 0 where
   pub first : ℕ
   pub more : List ℕ
   pub chars_are : chars (drop at text) ≡ first ∷ more
-  pub other : from_selector first ≡ NoSelector
+  pub other : from_selector first ≡ None
 
 pub first_at : (text : List ℕ) (at to : ℕ) → at < to → to ≡ at + valid_up_to_of (drop at text)
-    → first_selector (chars (drop at text)) ≡ NoSelector → FirstAt text at
+    → first_selector (chars (drop at text)) ≡ None → FirstAt text at
 unfolding encode_all first_selector
 first_at text at to l e f = go (chars (drop at text)) refl
   where

@@ -1,5 +1,6 @@
 -- The outcomes of a piece for a feed whose policy has changed since its held base was fed, by its tests. The first 320 of the bytes are a
 -- feed of crate feed, whose policy judges this base.
+use Rattle.std.specs.Prelude.{Ok, Err}
 use mathlib.Core.Path.{◌≡◌, refl, ap, ap₂, sym, ◌∙◌, subst}
 use mathlib.Core.Bool.{Bool, true, false, cond, not, ◌&&◌, ◌||◌}
 use mathlib.Core.List.{List, ◌++◌, append_assoc, append-nil}
@@ -41,7 +42,6 @@ use Rattle.feed.specs.Bytes.{
   state_of,
   state_words,
 }
-use Rattle.feed.specs.declared.FeedAnswer.TheVariants.{Refused, Written}
 use Rattle.feed.specs.declared.Held.{Held}
 use Rattle.feed.specs.declared.State.{State}
 use Rattle.feed.proofs.PieceRoom.{piece_bytes}
@@ -259,12 +259,12 @@ module _ (bs : List ℕ) where
 
     module _ (out : List ℕ) where
       pub later-9 : {s : State} → is_changing bs ≡ true → s ≡ state_of (feed_part bs) → s.ended ≡ true
-          → refuses (Refused FeedEnded) bs out ≡ called_on bs (piece b out)
+          → refuses (Err FeedEnded) bs out ≡ called_on bs (piece b out)
       unfolding called_on answer_to answer changing_feed feed_of
       later-9 e i t = let d : S.ended ≡ true = ap (λ (y : State). y.ended) (sym i) ∙ t in sym (simp (e, d))
 
       pub later-1 : {s : State} → is_changing bs ≡ true → s ≡ state_of (feed_part bs) → s.ended ≡ false → 16777216 - s.len < length b
-          → refuses (Refused TextTooLong) bs out ≡ called_on bs (piece b out)
+          → refuses (Err TextTooLong) bs out ≡ called_on bs (piece b out)
       unfolding called_on answer_to answer changing_feed feed_of
       later-1 {s} e i t h =
           let d : S.ended ≡ false = ap (λ (y : State). y.ended) (sym i) ∙ t in
@@ -272,20 +272,20 @@ module _ (bs : List ℕ) where
           sym (simp (e, d, lt-leb (S.len + length b) text_limit l))
 
       three-is : is_changing bs ≡ true → S.ended ≡ false → length b ≤ 16777216 - S.len → unfinished (drop (valid_up_to_of U) U) ≡ false
-          → refuses (Refused (NotWellFormed (S.len - S.rest_len + valid_up_to_of U))) bs out ≡ called_on bs (piece b out)
+          → refuses (Err (NotWellFormed (S.len - S.rest_len + valid_up_to_of U))) bs out ≡ called_on bs (piece b out)
       unfolding called_on answer_to answer changing_feed feed_of
       three-is e t h n =
           sym (simp (e, t, le-leb (S.len + length b) text_limit (omega (arith, short_len A (part-feed e))), n, length_bytes_of))
 
       pub later-3 : {s : State} {v m : ℕ} {l : Left} → is_changing bs ≡ true → s ≡ state_of (feed_part bs) → s.ended ≡ false
           → length b ≤ 16777216 - s.len → v ≡ valid_up_to_of (joined s) → LeftAt (joined s) v l → l.good ≡ false → m ≡ s.len - s.rest_len
-          → refuses (Refused (NotWellFormed (m + v))) bs out ≡ called_on bs (piece b out)
+          → refuses (Err (NotWellFormed (m + v))) bs out ≡ called_on bs (piece b out)
       later-3 {s} {v} {m} {l} e i t h j k g d =
           let Q : v ≡ valid_up_to_of U = j ∙ ap (λ (y : State). valid_up_to_of (joined y)) i in
           let M : m ≡ S.len - S.rest_len = d ∙ ap (λ (y : State). y.len - y.rest_len) i in
           let G : unfinished (drop (valid_up_to_of U) U) ≡ false =
           ap₂ (λ (n : ℕ) (y : State). unfinished (drop n (joined y))) (sym Q) (sym i) ∙ sym k.good ∙ g in
-          ap₂ (λ (x y : ℕ). refuses (Refused (NotWellFormed (x + y))) bs out) M Q
+          ap₂ (λ (x y : ℕ). refuses (Err (NotWellFormed (x + y))) bs out) M Q
           ∙ three-is e (ap (λ (y : State). y.ended) (sym i) ∙ t) (omega (arith, ap (λ (y : State). y.len) i)) G
 
       good-at : {s : State} {v : ℕ} {l : Left} → s ≡ S → v ≡ valid_up_to_of (joined s) → LeftAt (joined s) v l → l.good ≡ true
@@ -295,7 +295,7 @@ module _ (bs : List ℕ) where
           ∙ sym k.good ∙ g
 
       eight_is : is_changing bs ≡ true → S.ended ≡ false → length b ≤ 16777216 - S.len → unfinished (drop (valid_up_to_of U) U) ≡ true
-          → length out < 4 * length b + 16 → refuses (Refused (OutputTooShort (4 * length b + 16))) bs out ≡ called_on bs (piece b out)
+          → length out < 4 * length b + 16 → refuses (Err (OutputTooShort (4 * length b + 16))) bs out ≡ called_on bs (piece b out)
       unfolding called_on answer_to answer changing_feed feed_of
       eight_is e t h n l =
           sym (simp (
@@ -308,7 +308,7 @@ module _ (bs : List ℕ) where
 
       pub later-8 : {s : State} {v : ℕ} {l : Left} → is_changing bs ≡ true → s ≡ state_of (feed_part bs) → s.ended ≡ false
           → length b ≤ 16777216 - s.len → v ≡ valid_up_to_of (joined s) → LeftAt (joined s) v l → l.good ≡ true
-          → length out < 4 * length b + 16 → refuses (Refused (OutputTooShort (4 * length b + 16))) bs out ≡ called_on bs (piece b out)
+          → length out < 4 * length b + 16 → refuses (Err (OutputTooShort (4 * length b + 16))) bs out ≡ called_on bs (piece b out)
       later-8 e i t h j k g l =
           eight_is e (ap (λ (y : State). y.ended) (sym i) ∙ t) (omega (arith, ap (λ (y : State). y.len) i)) (good-at i j k g) l
 
@@ -329,12 +329,12 @@ module _ (bs : List ℕ) where
 
       on-changing : is_changing bs ≡ true → called_on bs (piece b out) ≡ on (changing_feed bs)
       unfolding called_on
-      on-changing e = ap (λ (t : Bool). cond t (on (changing_feed bs)) (refuses (Refused FeedEnded) bs out)) e
+      on-changing e = ap (λ (t : Bool). cond t (on (changing_feed bs)) (refuses (Err FeedEnded) bs out)) e
 
       done-is : S.ended ≡ false → S.len + length b ≤ text_limit → unfinished (drop (valid_up_to_of U) U) ≡ true
           → 4 * length b + 16 ≤ length out
           → on G₁ ≡ record {
-            answer = Written (length W);
+            answer = Ok (length W);
             feed = cond (is_changed bs && not (only_selectors (chars ((changing_feed bs).rest ++ b)))) (settled_bytes bs (after_piece G₁ b))
                 (kept_bytes bs (after_piece G₁ b));
             out = W ++ drop (length W) out;
@@ -369,7 +369,7 @@ module _ (bs : List ℕ) where
           → TakenLater q p S.held S.counts (chars U) out out' r → k ≡ held_for (pending_of (cond r.settled p q) r.taken.held)
           → PutAt bs 0 (bytes_of (state_words (open_state k l.len l.bytes (S.len + length b) r.taken.counts))) bs₁ 120
           → bs' ≡ cond r.settled (sets (sets bs₁ 120 (drop 328 bs₁)) 320 (word_bytes 0)) bs₁
-          → ◌≡◌ {A = Called} (record { answer = Written r.taken.end; feed = bs'; out = out' }) (called_on bs (piece b out))
+          → ◌≡◌ {A = Called} (record { answer = Ok r.taken.end; feed = bs'; out = out' }) (called_on bs (piece b out))
       done_at {k} {l} {r} {bs₁} {bs'} {out'} e c t h a g z w j v y =
           let O = open_state k l.len l.bytes (S.len + length b) r.taken.counts in
           let N = changing-length e in
@@ -386,7 +386,7 @@ module _ (bs : List ℕ) where
           ∙ ap (λ (u : Bool). cond u (settled_bytes bs F) (kept_bytes bs F)) (w.settled ∙ sym (choice-is c)) in
           let n : unfinished (drop (valid_up_to_of U) U) ≡ true = sym a.good ∙ g in
           let sh : S.len + length b ≤ text_limit = omega (arith, short_len A (part-feed e)) in
-          (λ i. record { answer = Written (m i); feed = d i; out = o i })
+          (λ i. record { answer = Ok (m i); feed = d i; out = o i })
           ∙ sym (on-changing e ∙ ap on (feed_is c) ∙ done-is t sh n z)
 
       pub later-done : {s : State} {i : ℕ} {k : Held} {l : Left} {r : Later} {bs₁ bs' out' : List ℕ} → is_changing bs ≡ true
@@ -397,7 +397,7 @@ module _ (bs : List ℕ) where
           → k ≡ held_for (pending_of (cond r.settled p q) r.taken.held)
           → PutAt bs 0 (bytes_of (state_words (open_state k l.len l.bytes (s.len + length b) r.taken.counts))) bs₁ 120
           → bs' ≡ cond r.settled (sets (sets bs₁ 120 (drop 328 bs₁)) 320 (word_bytes 0)) bs₁
-          → ◌≡◌ {A = Called} (record { answer = Written r.taken.end; feed = bs'; out = out' }) (called_on bs (piece b out))
+          → ◌≡◌ {A = Called} (record { answer = Ok r.taken.end; feed = bs'; out = out' }) (called_on bs (piece b out))
       later-done {s} {i} {k} {l} {r} {bs₁} {bs'} {out'} e c x t h j a g z w y v u =
           done_at e c (ap (λ (y : State). y.ended) (sym x) ∙ t) (omega (arith, ap (λ (y : State). y.len) x))
           (subst (λ (y : State). LeftAt (joined y) (valid_up_to_of (joined y)) l) x (subst (λ (n : ℕ). LeftAt (joined s) n l) j a)) g z

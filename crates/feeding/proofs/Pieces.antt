@@ -1,4 +1,5 @@
 -- The outcomes of a piece, by its tests.
+use Rattle.std.specs.Prelude.{Ok, Err, None}
 use mathlib.Core.Path.{◌≡◌, refl, ap, ap₂, sym, ◌∙◌, subst}
 use mathlib.Core.Bool.{Bool, true, false, cond}
 use mathlib.Core.List.{List, ◌++◌}
@@ -12,7 +13,6 @@ use Rattle.utf8.specs.Rfc3629.{chars, encode_all, is_scalar, valid_up_to_of}
 use Rattle.base.specs.Words.{bytes_of}
 use Rattle.policy.specs.PolicyBytes.{policy_of}
 use Rattle.policy.specs.declared.Policy.{Policy}
-use Rattle.emoji.specs.declared.presentation.FromSelector.TheVariants.{NoSelector}
 use Rattle.analysis.specs.Counts.{total}
 use Rattle.analysis.specs.declared.types.NonCanonicality.{NonCanonicality}
 use Rattle.utf8.specs.Subparts.{unfinished}
@@ -24,7 +24,6 @@ use Rattle.feed.specs.declared.Held.{Held}
 use Rattle.feeding.specs.declared.Left.{Left}
 use Rattle.feed.specs.declared.State.{State}
 use Rattle.feeding.specs.declared.Taken.{Taken}
-use Rattle.feed.specs.declared.FeedAnswer.TheVariants.{Refused, Written}
 use Rattle.base.specs.declared.Refusal.TheVariants.{FeedEnded, NotWellFormed, OutputTooShort, TextTooLong}
 use Rattle.feed.specs.Bytes.{
   Called,
@@ -47,7 +46,7 @@ use Rattle.feeding.proofs.Settling.{feed_length, feed_scalar, feed_unfinished, f
 use Rattle.feed.proofs.Writing.{words_many}
 use Rattle.feeding.proofs.Ending.{front, length_bytes_of}
 
-pub held_none : {k : Held} (h : Held) → h.base ≡ 0 → k ≡ record { base = 0; first = NoSelector; count = 0 } → (p : Policy) → k
+pub held_none : {k : Held} (h : Held) → h.base ≡ 0 → k ≡ record { base = 0; first = None; count = 0 } → (p : Policy) → k
     ≡ held_for (pending_of p h)
 held_none h e q p = q ∙ sym (ap (λ (t : Bool). held_for (cond t nothing (base p h.base h.first h.count))) (eq-eqb h.base 0 e))
 
@@ -98,16 +97,16 @@ module _ (bs b : List ℕ) where
       (piece_bytes (feed_of bs) b (feed_unfinished bs e))
 
   module _ (out : List ℕ) where
-    pub no-feed-piece : is_feed bs ≡ false → refuses (Refused FeedEnded) bs out ≡ called bs (piece b out)
+    pub no-feed-piece : is_feed bs ≡ false → refuses (Err FeedEnded) bs out ≡ called bs (piece b out)
     unfolding called
     no-feed-piece e = sym (simp e)
 
-    pub piece_9 : is_feed bs ≡ true → (state_of bs).ended ≡ true → refuses (Refused FeedEnded) bs out ≡ called bs (piece b out)
+    pub piece_9 : is_feed bs ≡ true → (state_of bs).ended ≡ true → refuses (Err FeedEnded) bs out ≡ called bs (piece b out)
     unfolding called answer feed_of
     piece_9 e t = sym (simp (e, t))
 
     pub piece_1 : {s : State} → is_feed bs ≡ true → s ≡ state_of bs → s.ended ≡ false → 16777216 - s.len < length b
-        → refuses (Refused TextTooLong) bs out ≡ called bs (piece b out)
+        → refuses (Err TextTooLong) bs out ≡ called bs (piece b out)
     unfolding called answer feed_of
     piece_1 {s} e p t h =
         let d : (state_of bs).ended ≡ false = ap (λ (y : State). y.ended) (sym p) ∙ t in
@@ -120,27 +119,27 @@ module _ (bs b : List ℕ) where
     three-is : is_feed bs ≡ true → (state_of bs).ended ≡ false → length b ≤ 16777216 - (state_of bs).len
         → unfinished (drop (valid_up_to_of U) U)
         ≡ false
-        → refuses (Refused (NotWellFormed ((state_of bs).len - (state_of bs).rest_len + valid_up_to_of U))) bs out ≡ called bs (piece b out)
+        → refuses (Err (NotWellFormed ((state_of bs).len - (state_of bs).rest_len + valid_up_to_of U))) bs out ≡ called bs (piece b out)
     unfolding called answer feed_of
     three-is e t h n =
         sym (simp (e, t, le-leb ((state_of bs).len + length b) text_limit (omega (arith, short_len bs e)), n, length_bytes_of))
 
     pub piece_3 : {s : State} {v m : ℕ} {l : Left} → is_feed bs ≡ true → s ≡ state_of bs → s.ended ≡ false → length b ≤ 16777216 - s.len
         → v ≡ valid_up_to_of (joined s)
-        → LeftAt (joined s) v l → l.good ≡ false → m ≡ s.len - s.rest_len → refuses (Refused (NotWellFormed (m + v))) bs out
+        → LeftAt (joined s) v l → l.good ≡ false → m ≡ s.len - s.rest_len → refuses (Err (NotWellFormed (m + v))) bs out
         ≡ called bs (piece b out)
     piece_3 {s} {v} {m} {l} e p t h q k g d =
         let Q : v ≡ valid_up_to_of U = q ∙ ap (λ (y : State). valid_up_to_of (joined y)) p in
         let M : m ≡ (state_of bs).len - (state_of bs).rest_len = d ∙ ap (λ (y : State). y.len - y.rest_len) p in
         let G : unfinished (drop (valid_up_to_of U) U) ≡ false =
         ap₂ (λ (i : ℕ) (y : State). unfinished (drop i (joined y))) (sym Q) (sym p) ∙ sym k.good ∙ g in
-        ap₂ (λ (i j : ℕ). refuses (Refused (NotWellFormed (i + j))) bs out) M Q
+        ap₂ (λ (i j : ℕ). refuses (Err (NotWellFormed (i + j))) bs out) M Q
         ∙ three-is e (ap (λ (y : State). y.ended) (sym p) ∙ t) (omega (arith, ap (λ (y : State). y.len) p)) G
 
     eight_is : is_feed bs ≡ true → (state_of bs).ended ≡ false → length b ≤ 16777216 - (state_of bs).len
         → unfinished (drop (valid_up_to_of U) U)
         ≡ true → length out < 4 * length b + 16
-        → refuses (Refused (OutputTooShort (4 * length b + 16))) bs out ≡ called bs (piece b out)
+        → refuses (Err (OutputTooShort (4 * length b + 16))) bs out ≡ called bs (piece b out)
     unfolding called answer feed_of
     eight_is e t h n l =
         sym (simp (
@@ -162,7 +161,7 @@ module _ (bs b : List ℕ) where
     pub piece_8 : {s : State} {v : ℕ} {l : Left} → is_feed bs ≡ true → s ≡ state_of bs → s.ended ≡ false → length b ≤ 16777216 - s.len → v
         ≡ valid_up_to_of (joined s)
         → LeftAt (joined s) v l → l.good ≡ true → length out < 4 * length b + 16 → refuses
-        (Refused (OutputTooShort (4 * length b + 16))) bs out ≡ called bs (piece b out)
+        (Err (OutputTooShort (4 * length b + 16))) bs out ≡ called bs (piece b out)
     piece_8 e p t h q k g l =
         eight_is e (ap (λ (y : State). y.ended) (sym p) ∙ t) (omega (arith, ap (λ (y : State). y.len) p)) (good-at p q k g) l
 
@@ -173,7 +172,7 @@ module _ (bs b : List ℕ) where
         → unfinished (drop (valid_up_to_of U) U)
         ≡ true → 4 * length b + 16 ≤ length out
         → called bs (piece b out) ≡ record {
-          answer = Written (length W);
+          answer = Ok (length W);
           feed = bytes_for (after_piece (feed_of bs) b) (drop 120 bs);
           out =
               W ++ drop (length W) out;
@@ -210,7 +209,7 @@ module _ (bs b : List ℕ) where
         → TakenBy (policy_part bs) (state_of bs).held (state_of bs).counts (fed_as (policy_part bs) (chars U)) out 0 out' r
         → k ≡ held_for (pending_of (policy_part bs) r.held)
         → PutAt bs 0 (bytes_of (state_words (open_state k l.len l.bytes ((state_of bs).len + length b) r.counts))) bs' 120
-        → ◌≡◌ {A = Called} (record { answer = Written r.end; feed = bs'; out = out' }) (called bs (piece b out))
+        → ◌≡◌ {A = Called} (record { answer = Ok r.end; feed = bs'; out = out' }) (called bs (piece b out))
     unfolding bytes_for
     done_at {k} {l} {r} {bs'} {out'} e t h a g z w q v =
         let O = open_state k l.len l.bytes ((state_of bs).len + length b) r.counts in
@@ -221,7 +220,7 @@ module _ (bs b : List ℕ) where
         let x : bs' ≡ bytes_for (after_piece (feed_of bs) b) (drop 120 bs) =
         front v (omega (arith, words_many O)) ∙ ap (λ (i : ℕ). bytes_of (state_words O) ++ drop i bs) (words_many O)
         ∙ ap (λ (y : State). bytes_of (state_words y) ++ drop 120 bs) (state-after a g w q) in
-        (λ i. record { answer = Written (m i); feed = x i; out = c i }) ∙ sym (taken_is e t h (sym a.good ∙ g) z)
+        (λ i. record { answer = Ok (m i); feed = x i; out = c i }) ∙ sym (taken_is e t h (sym a.good ∙ g) z)
 
     pub piece-done : {s : State} {i : ℕ} {k : Held} {l : Left} {r : Taken} {bs' out' : List ℕ} → is_feed bs ≡ true → s ≡ state_of bs
         → s.ended ≡ false → length b ≤ 16777216 - s.len
@@ -229,7 +228,7 @@ module _ (bs b : List ℕ) where
         → TakenBy (policy_part bs) s.held s.counts (fed_as (policy_part bs) (chars (joined s))) out 0 out' r
         → k ≡ held_for (pending_of (policy_part bs) r.held)
         → PutAt bs 0 (bytes_of (state_words (open_state k l.len l.bytes (s.len + length b) r.counts))) bs' 120
-        → ◌≡◌ {A = Called} (record { answer = Written r.end; feed = bs'; out = out' }) (called bs (piece b out))
+        → ◌≡◌ {A = Called} (record { answer = Ok r.end; feed = bs'; out = out' }) (called bs (piece b out))
     piece-done {s} {i} {k} {l} {r} {bs'} {out'} e p t h j a g z w q v =
         done_at e (ap (λ (y : State). y.ended) (sym p) ∙ t) (omega (arith, ap (λ (y : State). y.len) p))
         (subst (λ (y : State). LeftAt (joined y) (valid_up_to_of (joined y)) l) p (subst (λ (n : ℕ). LeftAt (joined s) n l) j a)) g z

@@ -1,4 +1,5 @@
 -- The characters of a piece after its first selectors: what is held is settled, the middle is formatted by itself, the tail is held.
+use Rattle.std.specs.Prelude.{None}
 use mathlib.Core.Path.{◌≡◌, refl, ap, ap₂, sym, ◌∙◌, subst}
 use mathlib.Core.Bool.{true, false}
 use mathlib.Core.List.{List, [], ◌∷◌, ◌++◌, append-nil, map}
@@ -22,7 +23,6 @@ use Rattle.utf8.proofs.Texts.{
 }
 use Rattle.emoji.specs.Presentation.{as_selector, is_selector}
 use Rattle.emoji.specs.Unicode.{has_variation_sequence}
-use Rattle.emoji.specs.declared.presentation.FromSelector.TheVariants.{NoSelector}
 use Rattle.policy.specs.declared.Policy.{Policy}
 use Rattle.scanner.specs.Classes.{class_of}
 use Rattle.scanner.specs.SelectorRun.{first_selector}
@@ -107,7 +107,7 @@ module _ (p : Policy) (text : List ℕ) (at to : ℕ) (t : HeldTail) where
     chars_are : C ≡ first ∷ more
     no_selector : is_selector first ≡ false
 
-  first_of : at < to → to ≡ at + valid_up_to_of (drop at text) → first_selector C ≡ NoSelector → FirstOf
+  first_of : at < to → to ≡ at + valid_up_to_of (drop at text) → first_selector C ≡ None → FirstOf
   unfolding encode_all first_selector
   first_of l e f = go C refl
     where
@@ -160,7 +160,7 @@ module _ (p : Policy) (text : List ℕ) (at to : ℕ) (t : HeldTail) where
         }
 
     rest-none : {start : ℕ} (b : BaseFrom text at to start) → has_variation_sequence b.value ≡ false → t.start ≡ to
-        → t.held ≡ record { base = 0; first = NoSelector; count = 0 } → to ≡ at + valid_up_to_of (drop at text) → Rest
+        → t.held ≡ record { base = 0; first = None; count = 0 } → to ≡ at + valid_up_to_of (drop at text) → Rest
     unfolding is_scalar
     rest-none {start} b v z q e =
         let w = step text start b.value b.width b.reads in
@@ -192,7 +192,7 @@ module _ (p : Policy) (text : List ℕ) (at to : ℕ) (t : HeldTail) where
           few = omega (arith, ap length same, ap (λ (h : Held). h.count) q);
         }
 
-  pub rest_of : at < to → to ≡ at + valid_up_to_of (drop at text) → first_selector C ≡ NoSelector → TailFrom text at to t → Rest
+  pub rest_of : at < to → to ≡ at + valid_up_to_of (drop at text) → first_selector C ≡ None → TailFrom text at to t → Rest
   rest_of l e f (one_held b v q) = rest-held (first_of l e f) b v q
   rest_of l e f (none_held b v z q) = rest-none (first_of l e f) b v z q e
 

@@ -1,4 +1,5 @@
 -- What the test of a feed gives, and the text and the counts of the held base.
+use Rattle.std.specs.Prelude.{Some, None, Option}
 use mathlib.Core.Path.{◌≡◌, refl, ap, sym, ◌∙◌}
 use mathlib.Core.Bool.{Bool, true, false, cond, ◌&&◌}
 use mathlib.Core.List.{List, [], ◌∷◌, ◌++◌, map}
@@ -15,8 +16,6 @@ use Rattle.base.proofs.Writer.{put_as, put_then}
 use Rattle.utf8.specs.Rfc3629.{encode, encode_all, is_scalar}
 use Rattle.utf8.specs.Subparts.{unfinished}
 use Rattle.emoji.specs.Presentation.{as_selector}
-use Rattle.emoji.specs.declared.presentation.FromSelector.{FromSelector}
-use Rattle.emoji.specs.declared.presentation.FromSelector.TheVariants.{NoSelector, Selector}
 use Rattle.emoji.specs.declared.presentation.Presentation.{Presentation}
 use Rattle.policy.specs.PolicyBytes.{is_policy}
 use Rattle.policy.specs.declared.Policy.{Policy}
@@ -110,10 +109,10 @@ short_len bs h = small_at bs 15 6 (feed_small bs h) (omega arith)
 
 -- ---- the held base
 
-run-few : (f : FromSelector) (n : ℕ) → length (run_with f n) ≤ n + 1
+run-few : (f : Option Presentation) (n : ℕ) → length (run_with f n) ≤ n + 1
 unfolding run_with
-run-few NoSelector n = omega arith
-run-few (Selector q) n = omega (arith, length-replicate (n - 1) q)
+run-few None n = omega arith
+run-few (Some q) n = omega (arith, length-replicate (n - 1) q)
 
 module _ (p : Policy) (h : Held) (k : Class) where
   abbrev O : Outcome
@@ -142,7 +141,7 @@ module _ (p : Policy) (h : Held) (k : Class) where
       put_as (encode_all (settle (pending_of p h) k).text) (ap (λ (s : Effect). encode_all s.text) (sym (settle-none e)))
       (record { ends = omega arith; bytes = refl })
 
-  pub put_some : (x : Outcome) (f : FromSelector) {o o₁ o₂ : List ℕ} {at b r : ℕ} → (h.base ≡ 0 → ⊥) → x ≡ O → run_with f 1
+  pub put_some : (x : Outcome) (f : Option Presentation) {o o₁ o₂ : List ℕ} {at b r : ℕ} → (h.base ≡ 0 → ⊥) → x ≡ O → run_with f 1
       ≡ chosen x.slot []
       → PutAt o at (encode h.base) o₁ b → PutAt o₁ b (encode_all (map as_selector (run_with f 1))) o₂ r
       → PutAt o at (encode_all (settle (pending_of p h) k).text) o₂ r

@@ -1,4 +1,5 @@
 -- The last character of a part of a text, and the last base with its selectors.
+use Rattle.std.specs.Prelude.{Some, None, Option}
 use mathlib.Core.Path.{◌≡◌, refl, ap, sym, ◌∙◌, subst}
 use mathlib.Core.Logic.{⊎_elim}
 use mathlib.Core.Bool.{true, false}
@@ -16,8 +17,6 @@ use Rattle.utf8.proofs.Places.{Step, step}
 use Rattle.utf8.proofs.Texts.{encode_all_append, length_encode_all_chars}
 use Rattle.emoji.specs.Presentation.{as_selector}
 use Rattle.emoji.specs.Unicode.{has_variation_sequence}
-use Rattle.emoji.specs.declared.presentation.FromSelector.{FromSelector}
-use Rattle.emoji.specs.declared.presentation.FromSelector.TheVariants.{NoSelector, Selector}
 use Rattle.emoji.specs.declared.presentation.Presentation.{Presentation}
 use Rattle.scanner.specs.SelectorRun.{first_selector}
 use Rattle.scanner.proofs.Bytes.{chars-from, chars_inside, size-chars, size-width}
@@ -186,7 +185,7 @@ backing_begin {text} {from} {to} h e =
     let b = valid_between text from to e in
     record { selectors = []; passed = b.0; after = b.1; ends = omega arith; more = h }
 
-abbrev front_at : List ℕ → ℕ → FromSelector
+abbrev front_at : List ℕ → ℕ → Option Presentation
 front_at text at = first_selector (chars (drop at text))
 
 between-on : {text : List ℕ} {i j : ℕ} → Between text i j → i ≤ j
@@ -203,7 +202,7 @@ module _ {text : List ℕ} {from to at start : ℕ} (g : Backing text from to at
   chars-here : chars (drop start text) ≡ l.value ∷ chars (drop at text)
   chars-here = here.chars_on ∙ ap (λ (n : ℕ). l.value ∷ chars (drop n text)) there
 
-  pub backing_on : {q : Presentation} → front_at text from ≡ NoSelector → front_at text start ≡ Selector q → Backing text from to start
+  pub backing_on : {q : Presentation} → front_at text from ≡ None → front_at text start ≡ Some q → Backing text from to start
   backing_on {q} first e =
       let s = (selector_here text start q e).read in
       let p : l.value ∷ chars (drop at text) ≡ as_selector q ∷ chars (drop (start + 3) text) = sym chars-here ∙ s.chars_on in
@@ -219,10 +218,10 @@ module _ {text : List ℕ} {from to at start : ℕ} (g : Backing text from to at
             (λ h. h) (le_or_lt start from);
       }
     where
-      differ : {q : Presentation} → Selector q ≡ NoSelector → ⊥
+      differ : {q : Presentation} → Some q ≡ None → ⊥
       differ f = let n : ◌≡◌ {A = ℕ} 0 1 = cc in omega arith
 
-  pub backing_base : front_at text start ≡ NoSelector → BaseFrom text from to start
+  pub backing_base : front_at text start ≡ None → BaseFrom text from to start
   unfolding first_selector
   backing_base e = record {
     value = l.value;
@@ -255,7 +254,7 @@ packed_value t v w n e p =
 
 -- What is found, by what was read at the last character that is no selector.
 module _ {text : List ℕ} {from to at start n : ℕ} (g : Backing text from to at) (l : LastChar text from at start)
-    (e : front_at text start ≡ NoSelector) (d : n ≡ packed (read_char (drop start text))) where
+    (e : front_at text start ≡ None) (d : n ≡ packed (read_char (drop start text))) where
   value_is : n / 8 ≡ l.value
   value_is = packed_value (drop start text) l.value (at - start) n l.reads d
 
@@ -271,7 +270,7 @@ module _ {text : List ℕ} {from to at start n : ℕ} (g : Backing text from to 
       (λ i. record { base = value_is i; first = first_selector_lem g i; count = count i }))
 
   pub tail_none : {r : HeldTail} → has_variation_sequence (n / 8) ≡ false
-      → r ≡ record { start = to; held = record { base = 0; first = NoSelector; count = 0 } }
+      → r ≡ record { start = to; held = record { base = 0; first = None; count = 0 } }
       → TailFrom text from to r
   unfolding backing_base
   tail_none {r} v q =

@@ -1,4 +1,5 @@
 -- Characters that are taken one after the other.
+use Rattle.std.specs.Prelude.{None, Option}
 use mathlib.Core.Path.{◌≡◌, refl, ap, ap₂, sym, ◌∙◌, subst}
 use mathlib.Core.Bool.{Bool, true, false, cond}
 use mathlib.Core.List.{List, [], ◌∷◌, ◌++◌, append-nil}
@@ -13,8 +14,6 @@ use Rattle.utf8.specs.Rfc3629.{encode, encode_all, is_scalar}
 use Rattle.utf8.proofs.Texts.{encode_all_append}
 use Rattle.emoji.specs.Presentation.{as_selector, from_selector}
 use Rattle.emoji.specs.Unicode.{has_variation_sequence}
-use Rattle.emoji.specs.declared.presentation.FromSelector.{FromSelector}
-use Rattle.emoji.specs.declared.presentation.FromSelector.TheVariants.{NoSelector}
 use Rattle.emoji.specs.declared.presentation.Presentation.{Presentation}
 use Rattle.policy.specs.declared.Policy.{Policy}
 use Rattle.scanner.specs.Classes.{class_of}
@@ -60,16 +59,16 @@ pub one_selector : (p : Policy) (s : Pending) (q : Presentation) → take_chars 
 unfolding take_char
 one_selector p s q =
     take_one s (record { char = as_selector q; policy = p })
-    ∙ ap (λ (y : FromSelector). take_char p s (as_selector q) y) (from_selector_lem q)
+    ∙ ap (λ (y : Option Presentation). take_char p s (as_selector q) y) (from_selector_lem q)
 
 abbrev otherwise : Policy → Pending → ℕ → Bool → R
 otherwise p s c b =
     (held_after_of p c b, record { text = (settle s (class_of c)).text ++ written_alone c b; counts = (settle s (class_of c)).counts })
 
-pub one-other : (p : Policy) (s : Pending) (c : ℕ) → from_selector c ≡ NoSelector → take_chars s (fed_as p (c ∷ []))
+pub one-other : (p : Policy) (s : Pending) (c : ℕ) → from_selector c ≡ None → take_chars s (fed_as p (c ∷ []))
     ≡ otherwise p s c (has_variation_sequence c)
 unfolding take_char
-one-other p s c e = take_one s (record { char = c; policy = p }) ∙ ap (λ (y : FromSelector). take_char p s c y) e
+one-other p s c e = take_one s (record { char = c; policy = p }) ∙ ap (λ (y : Option Presentation). take_char p s c y) e
 
 pub pending_none : (p : Policy) (h : Held) → h.base ≡ 0 → pending_of p h ≡ nothing
 pending_none p h e = ap (λ (t : Bool). cond t nothing (base p h.base h.first h.count)) (eq-eqb h.base 0 e)
@@ -107,7 +106,7 @@ module _ (t : Taken) (q : Presentation) (i : is_scalar t.held.base ≡ true) (b 
       (nothing_put o t.end) (pending_none p t.held z) s i
       (omega (arith, ap total s))
 
-  pub selector_after : {f : FromSelector} → (t.held.base ≡ 0 → ⊥) → f ≡ F.first_of t.held.first q → (p : Policy) (o : List ℕ)
+  pub selector_after : {f : Option Presentation} → (t.held.base ≡ 0 → ⊥) → f ≡ F.first_of t.held.first q → (p : Policy) (o : List ℕ)
       → TakenBy p t.held t.counts (fed_as p (as_selector q ∷ [])) o t.end o
       (record { held = record { base = t.held.base; first = f; count = t.held.count + 1 }; end = t.end; counts = t.counts })
   unfolding take_selector encode_all
@@ -118,10 +117,10 @@ module _ (t : Taken) (q : Presentation) (i : is_scalar t.held.base ≡ true) (b 
       by p h t.counts (fed_as p (as_selector q ∷ [])) o t.end o (record { held = k; end = t.end; counts = t.counts })
       (base p h.base (F.first_of h.first q) (suc h.count), no_effect)
       (one_selector p (pending_of p h) q ∙ ap (λ (y : Pending). take_selector y q) (pending_some p h z)) (nothing_put o t.end)
-      (pending_some p k z ∙ ap₂ (λ (y : FromSelector) (j : ℕ). base p h.base y j) e one) (sym (plus-empty t.counts)) i
+      (pending_some p k z ∙ ap₂ (λ (y : Option Presentation) (j : ℕ). base p h.base y j) e one) (sym (plus-empty t.counts)) i
       (omega arith)
 
-module _ (p : Policy) (t : Taken) (c : ℕ) (e : from_selector c ≡ NoSelector) where
+module _ (p : Policy) (t : Taken) (c : ℕ) (e : from_selector c ≡ None) where
   abbrev S : Effect
   S = settle (pending_of p t.held) (class_of c)
 
@@ -144,10 +143,10 @@ module _ (p : Policy) (t : Taken) (c : ℕ) (e : from_selector c ≡ NoSelector)
 
     pub other-held : {o o' : List ℕ} {r : ℕ} {k : Held} → is_scalar c ≡ true → has_variation_sequence c ≡ true
         → PutAt o t.end (encode_all S.text) o' r
-        → k ≡ record { base = c; first = NoSelector; count = 0 } → TakenBy p t.held t.counts (fed_as p (c ∷ [])) o t.end o'
+        → k ≡ record { base = c; first = None; count = 0 } → TakenBy p t.held t.counts (fed_as p (c ∷ [])) o t.end o'
         (record { held = k; end = r; counts = m })
     other-held {o} {o'} {r} {k} i v u w =
-        let K : Held = record { base = c; first = NoSelector; count = 0 } in
+        let K : Held = record { base = c; first = None; count = 0 } in
         let z : k.base ≡ c = ap (λ (y : Held). y.base) w in
         let d : k.count ≡ 0 = ap (λ (y : Held). y.count) w in
         by p t.held t.counts (fed_as p (c ∷ [])) o t.end o' (record { held = k; end = r; counts = m })
@@ -159,11 +158,11 @@ module _ (p : Policy) (t : Taken) (c : ℕ) (e : from_selector c ≡ NoSelector)
 
     pub other-alone : {o o₁ o' : List ℕ} {r₁ r : ℕ} {k : Held} → has_variation_sequence c ≡ false
         → PutAt o t.end (encode_all S.text) o₁ r₁ → PutAt o₁ r₁ (encode c) o' r
-        → k ≡ record { base = 0; first = NoSelector; count = 0 } → TakenBy p t.held t.counts (fed_as p (c ∷ [])) o t.end o'
+        → k ≡ record { base = 0; first = None; count = 0 } → TakenBy p t.held t.counts (fed_as p (c ∷ [])) o t.end o'
         (record { held = k; end = r; counts = m })
     unfolding encode_all is_scalar
     other-alone {o} {o₁} {o'} {r₁} {r} {k} v u x w =
-        let K : Held = record { base = 0; first = NoSelector; count = 0 } in
+        let K : Held = record { base = 0; first = None; count = 0 } in
         let z : k.base ≡ 0 = ap (λ (y : Held). y.base) w in
         let d : k.count ≡ 0 = ap (λ (y : Held). y.count) w in
         by p t.held t.counts (fed_as p (c ∷ [])) o t.end o' (record { held = k; end = r; counts = m })

@@ -1,9 +1,8 @@
 -- Contracts of helper functions: pieces of ASCII that are copied.
-use Rattle.std.specs.Prelude.{◌≡◌, true, cond, List, [], ◌∷◌, ℕ, ◌+◌, ◌*◌, ◌-◌, ◌<◌, ◌≤◌, eqb, drop, get_or, length}
+use Rattle.std.specs.Prelude.{◌≡◌, true, cond, List, [], ◌∷◌, ℕ, ◌+◌, ◌*◌, ◌-◌, ◌<◌, ◌≤◌, eqb, drop, get_or, length, None}
 use Rattle.base.specs.Refusals.{text_limit}
 use Rattle.base.specs.Words.{all_bytes, word_at}
 use Rattle.emoji.specs.Unicode.{has_variation_sequence}
-use Rattle.emoji.specs.declared.presentation.FromSelector.TheVariants.{NoSelector}
 use Rattle.policy.specs.PolicyBytes.{ascii_keys_bare}
 use Rattle.feed.specs.Bytes.{counts_of, is_feed, state_of}
 use Rattle.feed.specs.declared.Held.{Held}
@@ -23,7 +22,7 @@ copied_length n last = cond (eqb last 0) n (n - 1)
 
 -- A character without selectors, or none for 0.
 abbrev pub bare_held : ℕ → Held
-bare_held c = record { base = c; first = NoSelector; count = 0 }
+bare_held c = record { base = c; first = None; count = 0 }
 
 -- Each byte is ASCII.
 abbrev pub AllAscii : List ℕ → Type 0

@@ -1,12 +1,33 @@
 -- Contracts of helper functions: the parts of a piece. A piece completes a character; then it has selectors, then characters that are
 -- formatted by themselves, and at its end a base that is held, with its selectors.
-use Rattle.std.specs.Prelude.{◌≡◌, true, false, cond, List, [], ◌∷◌, ◌++◌, map, ℕ, ◌+◌, ◌*◌, ◌/◌, ◌%◌, ◌-◌, ◌<◌, ◌≤◌, eqb, drop, length}
+use Rattle.std.specs.Prelude.{
+  ◌≡◌,
+  true,
+  false,
+  cond,
+  List,
+  [],
+  ◌∷◌,
+  ◌++◌,
+  map,
+  ℕ,
+  ◌+◌,
+  ◌*◌,
+  ◌/◌,
+  ◌%◌,
+  ◌-◌,
+  ◌<◌,
+  ◌≤◌,
+  eqb,
+  drop,
+  length,
+  None,
+}
 use Rattle.base.specs.Words.{little_endian}
 use Rattle.utf8.specs.Rfc3629.{chars, encode_all, is_scalar, packed, read_char, valid_up_to_of}
 use Rattle.utf8.specs.declared.ReadChar.TheVariants.{Char}
 use Rattle.emoji.specs.Presentation.{as_selector, is_selector}
 use Rattle.emoji.specs.Unicode.{has_variation_sequence}
-use Rattle.emoji.specs.declared.presentation.FromSelector.TheVariants.{NoSelector}
 use Rattle.emoji.specs.declared.presentation.Presentation.{Presentation}
 use Rattle.policy.specs.declared.Policy.{Policy}
 use Rattle.analysis.specs.CellView.{total_cells}
@@ -91,7 +112,7 @@ pub data TailFrom (text : List ℕ) (from to : ℕ) (r : HeldTail) : Type 0 wher
   one_held : (b : BaseFrom text from to r.start) → has_variation_sequence b.value ≡ true
       → r.held ≡ record { base = b.value; first = first_asked b.selectors; count = length b.selectors } → TailFrom text from to r
   none_held : {start : ℕ} (b : BaseFrom text from to start) → has_variation_sequence b.value ≡ false → r.start ≡ to
-      → r.held ≡ record { base = 0; first = NoSelector; count = 0 } → TailFrom text from to r
+      → r.held ≡ record { base = 0; first = None; count = 0 } → TailFrom text from to r
 
 -- Selectors at the front of a piece are taken: they are the characters between two offsets, and no selector follows.
 pub record SelectorsTaken (piece : List ℕ) (from : ℕ) (t : Taken) (at : ℕ) (r : Taken) : Type 0 where
@@ -104,4 +125,4 @@ pub record SelectorsTaken (piece : List ℕ) (from : ℕ) (t : Taken) (at : ℕ)
 -- All selectors at the front of a piece are taken.
 pub record FrontTaken (piece : List ℕ) (from : ℕ) (t : Taken) (r : Front) : Type 0 where
   pub so_far : SelectorsTaken piece from t r.at r.taken
-  pub none_more : first_selector (chars (drop r.at piece)) ≡ NoSelector
+  pub none_more : first_selector (chars (drop r.at piece)) ≡ None

@@ -126,16 +126,6 @@ pub(crate) fn copies_ascii(feed: &[u8]) -> bool
     is_policy(&feed[STATE_BYTES..])
 }
 
-// Returns the larger of two bytes.
-fn larger(a: u8, b: u8) -> u8
-    ensures { (a ≤ result) × (b ≤ result) }
-{
-    if a < b {
-        return b;
-    }
-    a
-}
-
 // Tests whether every byte is ASCII. The compiler makes this loop take 32 bytes a turn.
 fn is_ascii(s: &[u8]) -> bool
     ensures { result ≡ true → AllAscii s.now }
@@ -143,7 +133,7 @@ fn is_ascii(s: &[u8]) -> bool
     let mut top: u8 = 0;
     let mut i = 0;
     while i < s.len() {
-        top = larger(top, s[i]);
+        top = top.max(s[i]);
         i += 1;
     }
     top <= 0x7F

@@ -21,13 +21,13 @@ ghost use Rattle.feeding.specs.Parts.{ScanFits, char_of, scanned_chars};
 
 use crate::scan::{PieceScan, scan_piece};
 use crate::{
-    END_ROOM, Taken, kept_held, left_after, minus, new_held, open_state, put_held, put_state,
-    take_first, take_other, take_rest, take_selectors,
+    END_ROOM, Taken, kept_held, left_after, new_held, open_state, put_held, put_state, take_first,
+    take_other, take_rest, take_selectors,
 };
 use analysis::types::NonCanonicality;
 use base::{Refusal, TEXT_LIMIT};
-use emoji::presentation::{FromSelector, Presentation};
-use feed::{FEED_BYTES, FeedAnswer, Held, STATE_BYTES, read_state};
+use emoji::presentation::Presentation;
+use feed::{FEED_BYTES, Held, STATE_BYTES, read_state};
 use policy_change::{CHANGING_BYTES, POLICY_AT, is_changing};
 use scanner::char_class::{Class, class_of};
 
@@ -40,15 +40,15 @@ pub(crate) struct Later {
 
 // Tests whether the completed character, given as one number, is there and is no selector.
 fn is_other(first: u32) -> bool
-    ensures other { result ≡ true → (first ≡ 0 → ⊥) × (from_selector (first / 8) ≡ FromSelector.NoSelector) }
+    ensures other { result ≡ true → (first ≡ 0 → ⊥) × (from_selector (first / 8) ≡ None) }
     ensures selectors { result ≡ false → only_selectors (char_of first) ≡ true }
 {
     if first == 0 {
         return false;
     }
     match Presentation::from_selector(first / 8) {
-        FromSelector::Selector(_) => false,
-        FromSelector::NoSelector => true,
+        Some(_) => false,
+        None => true,
     }
 }
 
@@ -112,7 +112,7 @@ fn take_settling(
 ) -> Later
     requires { (is_scalar held.base ≡ true) × (length piece.now ≤ text_limit) × (total counts + held.count ≤ 160000000)
         × ScanFits (policy_of policy.now) piece.now scan
-        × (scan.first ≡ 0 → ⊥) × (from_selector (scan.first / 8) ≡ FromSelector.NoSelector)
+        × (scan.first ≡ 0 → ⊥) × (from_selector (scan.first / 8) ≡ None)
         × (length (encode_all (take_chars (pending_of (policy_of earlier.now) held)
         (fed_as (policy_of policy.now) (scanned_chars piece.now scan))).1.text) ≤ length out.old) }
     ensures { TakenLater (policy_of earlier.now) (policy_of policy.now) held counts
@@ -187,18 +187,18 @@ fn adopt_policy(feed: &mut [u8], settled: bool) -> bool
 
 // Takes a piece, for a feed whose policy has changed since its held base was fed. `is_changing` implies the length. It is named so that the
 // prover finds it.
-fn piece_after_change(feed: &mut [u8], piece: &[u8], out: &mut [u8]) -> FeedAnswer
+fn piece_after_change(feed: &mut [u8], piece: &[u8], out: &mut [u8]) -> Result<usize, Refusal>
     requires { (length feed.old ≡ 528) × (is_changing feed.old ≡ true) × (is_changed feed.old ≡ true) }
     ensures { EndsCalled (called_on feed.old (Calls.piece piece.now out.old)) result feed.new
         out.new }
 {
     let state = read_state(feed);
     if state.ended {
-        return FeedAnswer::Refused(Refusal::FeedEnded);
+        return Err(Refusal::FeedEnded);
     }
     let len = state.len;
     if TEXT_LIMIT - len < piece.len() {
-        return FeedAnswer::Refused(Refusal::TextTooLong);
+        return Err(Refusal::TextTooLong);
     }
     let n = state.rest_len;
     let rest = state.rest;
@@ -206,12 +206,12 @@ fn piece_after_change(feed: &mut [u8], piece: &[u8], out: &mut [u8]) -> FeedAnsw
     let valid = scan.valid;
     let left = left_after(n, rest, piece, valid);
     if !left.good {
-        let valid_up_to = minus(len, n) + valid;
-        return FeedAnswer::Refused(Refusal::NotWellFormed { valid_up_to });
+        let valid_up_to = len.saturating_sub(n) + valid;
+        return Err(Refusal::NotWellFormed { valid_up_to });
     }
     let wanted = 4 * piece.len() + END_ROOM;
     if out.len() < wanted {
-        return FeedAnswer::Refused(Refusal::OutputTooShort { wanted });
+        return Err(Refusal::OutputTooShort { wanted });
     }
     let held = state.held;
     let counts = state.counts;
@@ -233,22 +233,22 @@ fn piece_after_change(feed: &mut [u8], piece: &[u8], out: &mut [u8]) -> FeedAnsw
         open_state(kept, left.len, left.bytes, len + piece.len(), sums),
     );
     adopt_policy(feed, later.settled);
-    FeedAnswer::Written { len: taken.end }
+    Ok(taken.end)
 }
 
 // Takes a piece, or refuses. If the policy has not changed since the held base was fed, the first 320 bytes are the whole feed.
-pub fn piece(feed: &mut [u8], piece: &[u8], out: &mut [u8]) -> FeedAnswer
+pub fn piece(feed: &mut [u8], piece: &[u8], out: &mut [u8]) -> Result<usize, Refusal>
     ensures { EndsCalled (called_on feed.old (Calls.piece piece.now out.old)) result feed.new
         out.new }
 {
     if feed.len() != CHANGING_BYTES {
-        return FeedAnswer::Refused(Refusal::FeedEnded);
+        return Err(Refusal::FeedEnded);
     }
     if base::read_word(feed, FEED_BYTES) == 0 {
         return crate::piece(&mut feed[0..FEED_BYTES], piece, out);
     }
     if !is_changing(feed) {
-        return FeedAnswer::Refused(Refusal::FeedEnded);
+        return Err(Refusal::FeedEnded);
     }
     piece_after_change(feed, piece, out)
 }

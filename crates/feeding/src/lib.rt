@@ -12,7 +12,7 @@ mod scan;
 mod tail;
 
 ghost use Rattle.std.specs.Prelude.{◌≡◌, true, List, [], ◌∷◌, ◌++◌, map, ℕ, ◌+◌, ◌*◌, ◌-◌, ◌/◌, ◌≤◌, ◌<◌, drop, get_or, length, take};
-ghost use Rattle.base.specs.Answers.{EndsAs};
+ghost use Rattle.base.specs.Answers.{EndsAs, answer_row};
 ghost use Rattle.base.specs.Output.{PutAt, Wrote};
 ghost use Rattle.base.specs.Words.{bytes_of, little_endian};
 ghost use Rattle.base.specs.Refusals.{text_limit};
@@ -26,7 +26,7 @@ ghost use Rattle.analysis.specs.Rules.{run_with};
 ghost use Rattle.analysis.specs.Counts.{total};
 ghost use Rattle.analysis.specs.CellView.{total_cells};
 ghost use Rattle.formatter.specs.List.{count_numbers};
-ghost use Rattle.feed.specs.Bytes.{EndsCalled, begun, called, feed_row, held_for, pending_of, state_for, state_words, totals_of};
+ghost use Rattle.feed.specs.Bytes.{EndsCalled, begun, called, held_for, pending_of, state_for, state_words, totals_of};
 ghost use Rattle.feed.specs.Calls as Calls;
 ghost use Rattle.feed.specs.Feed.{fed_as, settle, take_chars};
 ghost use Rattle.feed.specs.Feed as Feed;
@@ -37,11 +37,10 @@ ghost use Rattle.feeding.specs.Parts.{FrontTaken, ScanFits, char_of, scanned_cha
 use analysis::singleton::{Slot, analyze_by_policy_bytes};
 use analysis::types::NonCanonicality;
 use ascii::{base_word, copies_ascii, is_copied_piece, last_held, len_word, put_ascii, put_words};
-use base::{Refusal, TEXT_LIMIT, WriteAnswer};
-use emoji::presentation::{FromSelector, Presentation};
+use base::{Refusal, TEXT_LIMIT};
+use emoji::presentation::Presentation;
 use feed::{
-    FEED_BYTES, FeedAnswer, Held, STATE_BYTES, State, is_feed, is_unfinished, low_byte, read_state,
-    write_state,
+    FEED_BYTES, Held, STATE_BYTES, State, is_feed, is_unfinished, low_byte, read_state, write_state,
 };
 use middle::put_middle;
 use policy::policy_bytes::{is_policy, policy_refusal};
@@ -49,7 +48,6 @@ use scan::{PieceScan, scan_piece};
 use scanner::char_class::{Class, class_of};
 use scanner::selectors::{SELECTOR_BYTES, selector_at};
 use tail::find_tail;
-use utf8_encoding::WriteChar;
 
 // What every piece has room for besides 4 bytes for each of its bytes. The end has this room too.
 pub(crate) const END_ROOM: usize = 16;
@@ -66,11 +64,11 @@ pub(crate) fn put_state(feed: &mut [u8], state: State)
 
 // A base without selectors, or no base (0).
 pub(crate) fn new_held(base: u32) -> Held
-    ensures { result ≡ record { base = base; first = FromSelector.NoSelector; count = 0 } }
+    ensures { result ≡ record { base = base; first = None; count = 0 } }
 {
     Held {
         base,
-        first: FromSelector::NoSelector,
+        first: None,
         count: 0,
     }
 }
@@ -81,7 +79,7 @@ fn new_state() -> State
 {
     let held = Held {
         base: 0,
-        first: FromSelector::NoSelector,
+        first: None,
         count: 0,
     };
     let counts = NonCanonicality::empty();
@@ -96,18 +94,18 @@ fn new_state() -> State
 }
 
 // Begins a feed under a policy: writes its words and the policy at the front of the buffer, or refuses.
-pub fn begin(policy: &[u8], feed: &mut [u8]) -> FeedAnswer
-    ensures { EndsAs feed_row (begun policy.now feed.old) result feed.new }
+pub fn begin(policy: &[u8], feed: &mut [u8]) -> Result<usize, Refusal>
+    ensures { EndsAs answer_row (begun policy.now feed.old) result feed.new }
 {
     if !is_policy(policy) {
-        return FeedAnswer::Refused(policy_refusal(policy));
+        return Err(policy_refusal(policy));
     }
     if feed.len() < FEED_BYTES {
-        return FeedAnswer::Refused(Refusal::OutputTooShort { wanted: FEED_BYTES });
+        return Err(Refusal::OutputTooShort { wanted: FEED_BYTES });
     }
     put_state(feed, new_state());
     base::write_bytes(feed, STATE_BYTES, policy);
-    FeedAnswer::Written { len: FEED_BYTES }
+    Ok(FEED_BYTES)
 }
 
 // Writes the bytes of a character. The caller has tested that there is room.
@@ -116,31 +114,30 @@ fn put_char(out: &mut [u8], at: usize, ch: u32) -> usize
     ensures { PutAt out.old at (encode ch) out.new result }
 {
     match utf8_encoding::write_char(ch, out, at) {
-        WriteChar::Written { width } => at + width,
-        WriteChar::TooShort { width: _ } => at,
-        WriteChar::NotScalar => at,
+        Ok(width) => at + width,
+        Err(_) => at,
     }
 }
 
 // Writes the bytes of a selector, if there is one. The caller has tested that there is room.
-fn put_selector(out: &mut [u8], at: usize, selector: FromSelector) -> usize
+fn put_selector(out: &mut [u8], at: usize, selector: Option<Presentation>) -> usize
     requires { at + length (encode_all (map as_selector (run_with selector 1))) ≤ length out.old }
     ensures { PutAt out.old at (encode_all (map as_selector (run_with selector 1))) out.new result }
 {
     match selector {
-        FromSelector::Selector(presentation) => put_char(out, at, presentation.as_selector()),
-        FromSelector::NoSelector => at,
+        Some(presentation) => put_char(out, at, presentation.as_selector()),
+        None => at,
     }
 }
 
 // Returns the selector that a slot holds without a decision.
-fn selector_of(slot: Slot) -> FromSelector
+fn selector_of(slot: Slot) -> Option<Presentation>
     ensures { run_with result 1 ≡ chosen slot [] }
 {
     match slot {
-        Slot::Bare => FromSelector::NoSelector,
-        Slot::Fixed(presentation) => FromSelector::Selector(presentation),
-        Slot::Decided(default) => FromSelector::Selector(default),
+        Slot::Bare => None,
+        Slot::Fixed(presentation) => Some(presentation),
+        Slot::Decided(default) => Some(default),
     }
 }
 
@@ -227,16 +224,16 @@ fn count_words(counts: NonCanonicality) -> [usize; 8]
 }
 
 // Writes the eight totals, or refuses.
-pub fn totals(feed: &[u8], out: &mut [u8]) -> WriteAnswer
+pub fn totals(feed: &[u8], out: &mut [u8]) -> Result<usize, Refusal>
     ensures { Wrote (bytes_of (count_numbers (totals_of feed.now))) out.old out.new result }
 {
     let words = count_words(totals_now(feed));
     if base::write_numbers(out, 0, &words) {
-        return WriteAnswer::Written { len: TOTALS_BYTES };
+        return Ok(TOTALS_BYTES);
     }
-    WriteAnswer::TooShort {
+    Err(Refusal::OutputTooShort {
         wanted: TOTALS_BYTES,
-    }
+    })
 }
 
 // Returns the state of a feed that has ended.
@@ -245,7 +242,7 @@ fn ended_state(len: usize, counts: NonCanonicality) -> State
 {
     let held = Held {
         base: 0,
-        first: FromSelector::NoSelector,
+        first: None,
         count: 0,
     };
     State {
@@ -259,37 +256,37 @@ fn ended_state(len: usize, counts: NonCanonicality) -> State
 }
 
 // Ends a feed, for bytes that have the length of a feed.
-fn end_feed(feed: &mut [u8], out: &mut [u8]) -> FeedAnswer
+fn end_feed(feed: &mut [u8], out: &mut [u8]) -> Result<usize, Refusal>
     requires { length feed.old ≡ 320 }
     ensures { EndsCalled (called feed.old (Calls.end out.old)) result feed.new out.new }
 {
     if !is_feed(feed) {
-        return FeedAnswer::Refused(Refusal::FeedEnded);
+        return Err(Refusal::FeedEnded);
     }
     let state = read_state(feed);
     if state.ended {
-        return FeedAnswer::Refused(Refusal::FeedEnded);
+        return Err(Refusal::FeedEnded);
     }
     if state.rest_len != 0 {
-        return FeedAnswer::Refused(Refusal::UnfinishedCharacter);
+        return Err(Refusal::UnfinishedCharacter);
     }
     if out.len() < END_ROOM {
-        return FeedAnswer::Refused(Refusal::OutputTooShort { wanted: END_ROOM });
+        return Err(Refusal::OutputTooShort { wanted: END_ROOM });
     }
     let held = state.held;
     let settled = put_held(&feed[STATE_BYTES..], held, Class::Other, out, 0);
     let counts = state.counts;
     let last = settled.counts;
     put_state(feed, ended_state(state.len, counts.add(last)));
-    FeedAnswer::Written { len: settled.end }
+    Ok(settled.end)
 }
 
 // Ends a feed: writes the held base, or refuses.
-pub fn end(feed: &mut [u8], out: &mut [u8]) -> FeedAnswer
+pub fn end(feed: &mut [u8], out: &mut [u8]) -> Result<usize, Refusal>
     ensures { EndsCalled (called feed.old (Calls.end out.old)) result feed.new out.new }
 {
     if feed.len() != FEED_BYTES {
-        return FeedAnswer::Refused(Refusal::FeedEnded);
+        return Err(Refusal::FeedEnded);
     }
     end_feed(feed, out)
 }
@@ -380,13 +377,10 @@ pub(crate) struct Taken {
 }
 
 // Returns the first selector of a base when one more follows.
-fn first_after(first: FromSelector, presentation: Presentation) -> FromSelector
+fn first_after(first: Option<Presentation>, presentation: Presentation) -> Option<Presentation>
     ensures { result ≡ Feed.first_of first presentation }
 {
-    match first {
-        FromSelector::NoSelector => FromSelector::Selector(presentation),
-        FromSelector::Selector(earlier) => FromSelector::Selector(earlier),
-    }
+    first.or(Some(presentation))
 }
 
 // Takes a selector: one more of the held base, or an unsanctioned one.
@@ -420,7 +414,7 @@ fn take_selector(taken: Taken, presentation: Presentation) -> Taken
 
 // Takes a character that is no selector: it settles the held base, and then it is held or written.
 pub(crate) fn take_other(policy: &[u8], taken: Taken, ch: u32, out: &mut [u8]) -> Taken
-    requires { (is_scalar taken.held.base ≡ true) × (is_scalar ch ≡ true) × (from_selector ch ≡ FromSelector.NoSelector)
+    requires { (is_scalar taken.held.base ≡ true) × (is_scalar ch ≡ true) × (from_selector ch ≡ None)
         × (total taken.counts + taken.held.count ≤ 1000000000000)
         × (taken.end + length (encode_all (take_chars (pending_of (policy_of policy.now) taken.held)
         (fed_as (policy_of policy.now) (ch ∷ []))).1.text) ≤ length out.old) }
@@ -452,8 +446,8 @@ fn take_char(policy: &[u8], taken: Taken, ch: u32, out: &mut [u8]) -> Taken
         (fed_as (policy_of policy.now) (ch ∷ [])) out.old taken.end out.new result }
 {
     match Presentation::from_selector(ch) {
-        FromSelector::Selector(presentation) => take_selector(taken, presentation),
-        FromSelector::NoSelector => take_other(policy, taken, ch, out),
+        Some(presentation) => take_selector(taken, presentation),
+        None => take_other(policy, taken, ch, out),
     }
 }
 
@@ -500,11 +494,11 @@ pub(crate) fn take_selectors(start: Taken, piece: &[u8], from: usize) -> Front
     let mut at = from;
     loop {
         match selector_at(piece, at) {
-            FromSelector::Selector(presentation) => {
+            Some(presentation) => {
                 taken = take_selector(taken, presentation);
                 at += SELECTOR_BYTES;
             }
-            FromSelector::NoSelector => {
+            None => {
                 return Front { taken, at };
             }
         }
@@ -544,7 +538,7 @@ pub(crate) fn take_rest(
 ) -> Taken
     requires { (is_scalar taken.held.base ≡ true) × (total taken.counts + taken.held.count ≤ 1000000000000)
         × (length piece.now ≤ text_limit) × (at < end) × (end ≡ at + valid_up_to_of (drop at piece.now))
-        × (first_selector (chars (drop at piece.now)) ≡ FromSelector.NoSelector)
+        × (first_selector (chars (drop at piece.now)) ≡ None)
         × (plain ≡ true → total (total_cells (policy_of policy.now) (chars (drop at piece.now))) ≡ 0)
         × (taken.end + length (encode_all (take_chars (pending_of (policy_of policy.now) taken.held)
         (fed_as (policy_of policy.now) (chars (drop at piece.now)))).1.text) ≤ length out.old) }
@@ -606,16 +600,6 @@ fn take_all(
     take_rest(policy, taken, piece, at, scan.end, scan.plain, out)
 }
 
-// Returns the difference, or 0 if it is negative.
-pub(crate) fn minus(a: usize, b: usize) -> usize
-    ensures { result ≡ a - b }
-{
-    if a < b {
-        return 0;
-    }
-    a - b
-}
-
 // Returns what is held in one form: without a base there is no selector.
 pub(crate) fn kept_held(held: Held) -> Held
     ensures { (p : GivenPolicy) → result ≡ held_for (pending_of p held) }
@@ -647,21 +631,21 @@ pub(crate) fn open_state(
 }
 
 // Takes a piece, for bytes that have the length of a feed.
-fn take_piece(feed: &mut [u8], piece: &[u8], out: &mut [u8]) -> FeedAnswer
+fn take_piece(feed: &mut [u8], piece: &[u8], out: &mut [u8]) -> Result<usize, Refusal>
     requires { length feed.old ≡ 320 }
     ensures { EndsCalled (called feed.old (Calls.piece piece.now out.old)) result feed.new
         out.new }
 {
     if !is_feed(feed) {
-        return FeedAnswer::Refused(Refusal::FeedEnded);
+        return Err(Refusal::FeedEnded);
     }
     let state = read_state(feed);
     if state.ended {
-        return FeedAnswer::Refused(Refusal::FeedEnded);
+        return Err(Refusal::FeedEnded);
     }
     let len = state.len;
     if TEXT_LIMIT - len < piece.len() {
-        return FeedAnswer::Refused(Refusal::TextTooLong);
+        return Err(Refusal::TextTooLong);
     }
     let n = state.rest_len;
     let rest = state.rest;
@@ -669,12 +653,12 @@ fn take_piece(feed: &mut [u8], piece: &[u8], out: &mut [u8]) -> FeedAnswer
     let valid = scan.valid;
     let left = left_after(n, rest, piece, valid);
     if !left.good {
-        let valid_up_to = minus(len, n) + valid;
-        return FeedAnswer::Refused(Refusal::NotWellFormed { valid_up_to });
+        let valid_up_to = len.saturating_sub(n) + valid;
+        return Err(Refusal::NotWellFormed { valid_up_to });
     }
     let wanted = 4 * piece.len() + END_ROOM;
     if out.len() < wanted {
-        return FeedAnswer::Refused(Refusal::OutputTooShort { wanted });
+        return Err(Refusal::OutputTooShort { wanted });
     }
     let held = state.held;
     let counts = state.counts;
@@ -686,11 +670,11 @@ fn take_piece(feed: &mut [u8], piece: &[u8], out: &mut [u8]) -> FeedAnswer
         feed,
         open_state(kept, left.len, left.bytes, len + piece.len(), sums),
     );
-    FeedAnswer::Written { len: taken.end }
+    Ok(taken.end)
 }
 
 // Takes a piece, for a feed that copies ASCII.
-fn copy_piece(feed: &mut [u8], piece: &[u8], out: &mut [u8]) -> FeedAnswer
+fn copy_piece(feed: &mut [u8], piece: &[u8], out: &mut [u8]) -> Result<usize, Refusal>
     requires { CopiesAscii feed.old }
     ensures { EndsCalled (called feed.old (Calls.piece piece.now out.old)) result feed.new
         out.new }
@@ -703,17 +687,17 @@ fn copy_piece(feed: &mut [u8], piece: &[u8], out: &mut [u8]) -> FeedAnswer
     let last = last_held(piece);
     let end = put_ascii(out, base, piece, last);
     put_words(feed, last, len + piece.len());
-    FeedAnswer::Written { len: end }
+    Ok(end)
 }
 
 // Takes a piece: writes all but an unfinished character and a last base that has a variation entry, with its selectors. Or it refuses.
 // The length is tested here, so that the compiler knows it wherever the words of the feed are read and written.
-pub fn piece(feed: &mut [u8], piece: &[u8], out: &mut [u8]) -> FeedAnswer
+pub fn piece(feed: &mut [u8], piece: &[u8], out: &mut [u8]) -> Result<usize, Refusal>
     ensures { EndsCalled (called feed.old (Calls.piece piece.now out.old)) result feed.new
         out.new }
 {
     if feed.len() != FEED_BYTES {
-        return FeedAnswer::Refused(Refusal::FeedEnded);
+        return Err(Refusal::FeedEnded);
     }
     if !copies_ascii(feed) {
         return take_piece(feed, piece, out);

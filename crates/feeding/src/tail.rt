@@ -2,11 +2,9 @@
 // well-formed bytes backwards, so that no other character is read.
 ghost use Rattle.std.specs.Prelude.{◌≡◌, ◌+◌, ◌-◌, ◌/◌, ◌<◌, ◌≤◌, drop};
 ghost use Rattle.utf8.specs.Rfc3629.{chars, valid_up_to_of};
-ghost use Rattle.emoji.specs.declared.presentation.FromSelector.TheVariants.{NoSelector};
 ghost use Rattle.scanner.specs.SelectorRun.{first_selector};
 ghost use Rattle.feeding.specs.Parts.{Between, LastChar, TailFrom};
 
-use emoji::presentation::FromSelector;
 use feed::Held;
 use scanner::selectors::{SELECTOR_BYTES, selector_at};
 
@@ -55,11 +53,11 @@ fn held_at(text: &[u8], start: usize, ch: u32, at: usize, to: usize) -> HeldTail
 
 // Returns that nothing is held up to the end.
 fn none_held(to: usize) -> HeldTail
-    ensures { result ≡ record { start = to; held = record { base = 0; first = NoSelector; count = 0 } } }
+    ensures { result ≡ record { start = to; held = record { base = 0; first = None; count = 0 } } }
 {
     let held = Held {
         base: 0,
-        first: FromSelector::NoSelector,
+        first: None,
         count: 0,
     };
     HeldTail { start: to, held }
@@ -69,17 +67,17 @@ fn none_held(to: usize) -> HeldTail
 // first of them is no selector.
 pub(crate) fn find_tail(text: &[u8], from: usize, to: usize) -> HeldTail
     requires { (from < to) × (to ≡ from + valid_up_to_of (drop from text.now))
-        × (first_selector (chars (drop from text.now)) ≡ NoSelector) }
+        × (first_selector (chars (drop from text.now)) ≡ None) }
     ensures { TailFrom text.now from to result }
 {
     let mut at = to;
     loop {
         let start = last_char(text, from, at);
         match selector_at(text, start) {
-            FromSelector::Selector(_) => {
+            Some(_) => {
                 at = start;
             }
-            FromSelector::NoSelector => {
+            None => {
                 let ch = utf8::decode(text, start) / 8;
                 if emoji::has_variation_sequence_by_block(ch) {
                     return held_at(text, start, ch, at, to);

@@ -1,5 +1,7 @@
 -- The passes around a stretch: the tests by their branches, and of a finding that starts in the stretch; where a pass stops, the two
 -- tables, and writing both lists.
+use Rattle.base.specs.declared.Refusal.{Refusal}
+use Rattle.std.specs.Prelude.{Ok, Result}
 use mathlib.Core.Path.{◌≡◌, refl, ap, ap₂, subst, sym, ◌∙◌}
 use mathlib.Core.Logic.{⊎_elim}
 use mathlib.Core.Bool.{Bool, true, false, ◌&&◌, and-false, cond, not}
@@ -29,8 +31,7 @@ use Rattle.formatter.proofs.RowBytes.{length_row}
 use Rattle.formatter.proofs.Steps.{row_by}
 use Rattle.findings_near.specs.Around.{AfterBoth, EndsAround, fill_both, holds, inside, meets, only_shares, refuses}
 use Rattle.findings_near.specs.Helpers.{IsLast, IsNext, rows_from}
-use Rattle.findings_near.specs.declared.AroundAnswer.{AroundAnswer}
-use Rattle.findings_near.specs.declared.AroundAnswer.TheVariants.{Listed}
+use Rattle.findings_near.specs.declared.ListedAround.{ListedAround}
 use Rattle.findings_near.specs.Theorems.{InTextOrder}
 use Rattle.findings_near.proofs.Order.{ordered-from}
 use Rattle.findings_near.proofs.NextRows.{front, is_next, write-one}
@@ -67,10 +68,6 @@ module _ (from to start end : ℕ) where
   and_no true true = refl
   and_no true false = refl
   and_no false y = refl
-
-  pub empty-meets : to ≤ from → false ≡ meets from to start end
-  unfolding meets
-  empty-meets h = ap (λ (x : Bool). meets_by x (ltb start to) (ltb from end)) (sym (le-ltb from to h))
 
   pub late_meets : to ≤ start → false ≡ meets from to start end
   unfolding meets
@@ -187,22 +184,23 @@ module _ (holding sharing : List Finding) (inner outer : List ℕ) {i o : ℕ} (
 
   pub both-filled : {inner' outer' : List ℕ} {r s : ℕ} → i ≤ length inner / row_bytes → o ≤ length outer / row_bytes
       → PutAt inner 0 (rows_bytes row_numbers holding) inner' r → PutAt outer 0 (rows_bytes row_numbers sharing) outer' s
-      → record { answer = Listed i o; inner = inner'; outer = outer' } ≡ fill_both holding sharing inner outer
+      → record { answer = Ok (record { inside = i; sharing = o }); inner = inner'; outer = outer' } ≡ fill_both holding sharing inner outer
   unfolding fill_both
   both-filled {inner'} {outer'} h k p q =
-      made (ap₂ Listed e f) (front inner (rows_bytes row_numbers holding) (inner_room h) p.bytes)
+      made (ap₂ (λ (a b : ℕ). Ok (record { inside = a; sharing = b })) e f)
+      (front inner (rows_bytes row_numbers holding) (inner_room h) p.bytes)
       (front outer (rows_bytes row_numbers sharing) (outer_room k) q.bytes)
       ∙ simp (
         le-leb (length holding) (length inner / row_bytes) (omega arith),
         le-leb (length sharing) (length outer / row_bytes) (omega arith),
       )
     where
-      made : {a b : AroundAnswer} {x y z w : List ℕ} → a ≡ b → x ≡ y → z ≡ w
+      made : {a b : Result ListedAround Refusal} {x y z w : List ℕ} → a ≡ b → x ≡ y → z ≡ w
           → ◌≡◌ {A = AfterBoth} (record { answer = a; inner = x; outer = z }) (record { answer = b; inner = y; outer = w })
       made g h k = cc
 
 -- The answer and both tables that the definition gives.
-pub ends_around : {said : AfterBoth} {r : AroundAnswer} {inner outer : List ℕ}
+pub ends_around : {said : AfterBoth} {r : Result ListedAround Refusal} {inner outer : List ℕ}
     → ◌≡◌ {A = AfterBoth} (record { answer = r; inner = inner; outer = outer }) said → EndsAround said r inner outer
 ends_around e = record {
   answer = answers (ap (λ (a : AfterBoth). a.answer) e);

@@ -1,10 +1,10 @@
 -- The nearest finding has the least distance of all, and is the earliest of those.
+use Rattle.std.specs.Prelude.{Some, None, Option}
 use mathlib.Core.Path.{◌≡◌, refl, ap, subst, sym, ◌∙◌}
 use mathlib.Core.Logic.{◌⊎◌, inl, inr, ⊎_elim}
 use mathlib.Core.Bool.{Bool, true, false, ◌&&◌, cond}
 use mathlib.Core.List.Memᴰ
 use mathlib.Core.List.{List, [], ◌∷◌, Memᴰ}
-use mathlib.Core.Option.{Option, none, some}
 use Prim.Native.Nat.{ℕ, ◌-◌, ◌<◌, ◌≤◌, min}
 use native.Mathlib.Omega.{arith}
 use lib.Dec.{leb, ltb}
@@ -48,7 +48,7 @@ module _ (o : ℕ) where
     pub least : (g : Finding) → Memᴰ g l → distance o f ≤ distance o g
     pub earliest : (g : Finding) → Memᴰ g l → distance o g ≡ distance o f → f.start ≤ g.start
 
-  pub none-nearest : (l : List Finding) → nearest o l ≡ none → l ≡ []
+  pub none-nearest : (l : List Finding) → nearest o l ≡ None → l ≡ []
   unfolding nearest
   none-nearest [] e = refl
   none-nearest (f ∷ l) e = let z : ◌≡◌ {A = ℕ} 0 1 = cc in absurd (omega arith)
@@ -74,10 +74,10 @@ module _ (o : ℕ) where
         (Memᴰ.cases_cons m);
   }
 
-  is_some : {A : Type 0} {x y : A} → some x ≡ some y → x ≡ y
+  is_some : {A : Type 0} {x y : A} → Some x ≡ Some y → x ≡ y
   is_some e = cc
 
-  pub nearest_best : {l : List Finding} → InTextOrder l → (f : Finding) → nearest o l ≡ some f → Best l f
+  pub nearest_best : {l : List Finding} → InTextOrder l → (f : Finding) → nearest o l ≡ Some f → Best l f
   unfolding nearest nearer
   nearest_best no_more f e = let z : ◌≡◌ {A = ℕ} 0 1 = cc in absurd (omega arith)
   nearest_best (and_then {f = h} {l} full before ord) f e = go (nearest o l) refl (nearest_best ord) e
@@ -89,11 +89,11 @@ module _ (o : ℕ) where
           (omega arith, omega arith)))
       pick g false t b e = subst (Best (h ∷ l)) e (later_best h g l (omega (arith, leb-false (distance o h) (distance o g) t)) b)
 
-      go : (r : Option Finding) → nearest o l ≡ r → ((g : Finding) → nearest o l ≡ some g → Best l g) → some (nearer o h r) ≡ some f
+      go : (r : Option Finding) → nearest o l ≡ r → ((g : Finding) → nearest o l ≡ Some g → Best l g) → Some (nearer o h r) ≡ Some f
           → Best (h ∷ l) f
-      go none n k e =
+      go None n k e =
           subst (Best (h ∷ l)) (is_some e) (first_best h l (λ x m. absurd (Memᴰ.not-nil (subst (Memᴰ x) (none-nearest l n) m))))
-      go (some g) n k e = pick g (leb (distance o h) (distance o g)) refl (k g n) (is_some e)
+      go (Some g) n k e = pick g (leb (distance o h) (distance o g)) refl (k g n) (is_some e)
 
 -- ---- there is only one
 
@@ -116,9 +116,9 @@ only_best o ord f g a b =
     let h = b.earliest f a.among (omega arith) in
     same_start ord f g a.among b.among (omega arith)
 
-pub best_nearest : (o : ℕ) {l : List Finding} → InTextOrder l → (f : Finding) → Best o l f → nearest o l ≡ some f
+pub best_nearest : (o : ℕ) {l : List Finding} → InTextOrder l → (f : Finding) → Best o l f → nearest o l ≡ Some f
 best_nearest o {l} ord f b = go (nearest o l) refl
   where
-    go : (r : Option Finding) → nearest o l ≡ r → nearest o l ≡ some f
-    go none e = absurd (Memᴰ.not-nil (subst (Memᴰ f) (none-nearest o l e) b.among))
-    go (some g) e = e ∙ ap some (only_best o ord g f (nearest_best o ord g e) b)
+    go : (r : Option Finding) → nearest o l ≡ r → nearest o l ≡ Some f
+    go None e = absurd (Memᴰ.not-nil (subst (Memᴰ f) (none-nearest o l e) b.among))
+    go (Some g) e = e ∙ ap Some (only_best o ord g f (nearest_best o ord g e) b)

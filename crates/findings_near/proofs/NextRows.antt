@@ -7,6 +7,7 @@ use native.Mathlib.Nat.{zero-add}
 use native.Mathlib.Omega.{arith}
 use lib.ListN.{drop, length}
 use lib.Seq.{sets, sets-eq}
+use Rattle.std.specs.Int.{from_bool}
 use Rattle.base.specs.Lists.{filter}
 use Rattle.base.specs.Output.{PutAt}
 use Rattle.base.specs.Tables.{rows_bytes}
@@ -79,6 +80,15 @@ pub at_own : {text : List ℕ} {n : ℕ} {c : TextCount} → AtPosition text n c
 at_own {text} {n} a = subst (AtPosition text n) a.position a
 
 -- ---- one finding more
+
+-- A test as a number.
+pub from_bool_is : (b : Bool) → from_bool b ≡ cond b 1 0
+from_bool_is false = refl
+from_bool_is true = refl
+
+pub from_bool_small : (b : Bool) → from_bool b ≤ 1
+from_bool_small false = omega arith
+from_bool_small true = omega arith
 
 module _ (test : Finding → Bool) (f : Finding) (l : List Finding) where
   pub count-one : {a : Bool} {n : ℕ} → a ≡ test f → n ≡ cond a 1 0 → length (filter test (f ∷ l)) ≡ n + length (filter test l)

@@ -1,6 +1,6 @@
 -- The findings that lie inside a stretch of bytes, those that only share a byte with it, and the whole outcome of the call that lists both
 -- (document 02, ix). A stretch is the bytes from an offset up to, not including, another.
-use Rattle.std.specs.Prelude.{◌≡◌, Bool, ◌&&◌, cond, not, List, ℕ, ◌/◌, min, leb, ltb, length}
+use Rattle.std.specs.Prelude.{◌≡◌, Bool, ◌&&◌, cond, not, List, ℕ, ◌/◌, min, leb, ltb, length, Ok, Err, Result}
 use Rattle.base.specs.Lists.{filter}
 use Rattle.base.specs.Answers.{Answers, done, two_values}
 use Rattle.base.specs.Refusals.{RefusalRow, or_else, refusal_row, written}
@@ -11,8 +11,7 @@ use Rattle.analysis.specs.declared.types.Finding.{Finding}
 use Rattle.formatter.specs.Findings.{listed}
 use Rattle.formatter.specs.Intake.{intake_refusal}
 use Rattle.formatter.specs.List.{row_bytes, row_numbers}
-use Rattle.findings_near.specs.declared.AroundAnswer.{AroundAnswer}
-use Rattle.findings_near.specs.declared.AroundAnswer.TheVariants.{Listed, Refused}
+use Rattle.findings_near.specs.declared.ListedAround.{ListedAround}
 
 -- ---- a stretch
 
@@ -49,22 +48,22 @@ sharing_of text policy from to = filter (only_shares from (stretch_end text to))
 
 -- The row of the answer: done with two values, the number of findings inside and the number of those that only share a byte; or the
 -- refusal's row.
-unfoldable pub around_row : AroundAnswer → RefusalRow
-around_row (Listed inner outer) = done (two_values inner outer)
-around_row (Refused r) = refusal_row r
+unfoldable pub around_row : Result ListedAround Refusal → RefusalRow
+around_row (Ok a) = done (two_values a.inside a.sharing)
+around_row (Err r) = refusal_row r
 
 -- An answer, and the contents of the two lent tables after the call.
 pub record AfterBoth : Type 0 where
-  pub answer : AroundAnswer
+  pub answer : Result ListedAround Refusal
   pub inner : List ℕ
   pub outer : List ℕ
 
 -- A refusal leaves both tables as they were.
 abbrev pub refuses : List ℕ → List ℕ → Refusal → AfterBoth
-refuses inner outer r = record { answer = Refused r; inner = inner; outer = outer }
+refuses inner outer r = record { answer = Err r; inner = inner; outer = outer }
 
 -- Contract of the call: the answer that the definition gives, and both tables as the definition says.
-pub record EndsAround (said : AfterBoth) (r : AroundAnswer) (inner outer : List ℕ) : Type 0 where
+pub record EndsAround (said : AfterBoth) (r : Result ListedAround Refusal) (inner outer : List ℕ) : Type 0 where
   pub answer : Answers around_row said.answer r
   pub inner_table : inner ≡ said.inner
   pub outer_table : outer ≡ said.outer
@@ -76,7 +75,7 @@ fill_both holding sharing inner outer =
     cond (leb (length holding) (length inner / row_bytes))
     (cond (leb (length sharing) (length outer / row_bytes))
     (record {
-      answer = Listed (length holding) (length sharing);
+      answer = Ok (record { inside = length holding; sharing = length sharing });
       inner = (written (length holding) (rows_bytes row_numbers holding) inner).buffer;
       outer = (written (length sharing) (rows_bytes row_numbers sharing) outer).buffer;
     })

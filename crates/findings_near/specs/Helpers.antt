@@ -1,6 +1,5 @@
 -- Contracts of helper functions: the next finding with its positions, and a pass that keeps the nearest finding.
-use Rattle.std.specs.Prelude.{◌≡◌, Bool, true, false, List, [], ◌∷◌, map, ℕ, ◌+◌, ◌-◌, ◌<◌, ◌≤◌, drop, length}
-use Rattle.std.proofs.Math.Option.{Option, none, some}
+use Rattle.std.specs.Prelude.{◌≡◌, List, [], ◌∷◌, map, ℕ, ◌+◌, ◌-◌, ◌<◌, ◌≤◌, drop, length, ⊤, Some, None, Option}
 use Rattle.utf8.specs.Rfc3629.{valid_up_to_of}
 use Rattle.policy.specs.declared.Policy.{Policy}
 use Rattle.positions.specs.Positions.{AtPosition}
@@ -10,6 +9,7 @@ use Rattle.analysis.specs.declared.types.Finding.{Finding}
 use Rattle.formatter.specs.Findings.{finding_row}
 use Rattle.findings_near.specs.Nearest.{nearer}
 use Rattle.findings_near.specs.declared.rows.NextRow.{NextRow}
+use Rattle.findings_near.specs.declared.rows.NextRow.TheVariants.{End, Found}
 
 -- The listed findings from an offset on.
 abbrev pub rows_from : Policy → List ℕ → ℕ → List Finding
@@ -34,16 +34,17 @@ module _ (p : Policy) (text : List ℕ) (at : ℕ) where
     pub rows : rows_from p text at ≡ []
     pub valid : stop ≡ at + valid_up_to_of (drop at text)
 
-  -- The next finding from the offset on, if there is one; else the end of the longest well-formed beginning is in place of its start.
+  -- The next finding from the offset on, if there is one; else the end of the longest well-formed beginning.
   abbrev pub GivesRow : NextRow → Type 0
-  GivesRow r = (r.present ≡ true → IsNext r.finding) × (r.present ≡ false → IsLast r.finding.start)
+  GivesRow (Found f) = IsNext f
+  GivesRow (End stop) = IsLast stop
 
--- The best finding so far as an option: none if no finding was found.
-abbrev pub given : Bool → Finding → Option Finding
-given false b = none
-given true b = some b
+-- A finding, if there is one, has a byte.
+abbrev pub HasByte : Option Finding → Type 0
+HasByte None = ⊤
+HasByte (Some f) = f.start < f.end
 
--- The nearest of the findings so far, with one finding more.
-unfoldable pub closer : ℕ → Bool → Finding → Finding → Finding
-closer o false b f = f
-closer o true b f = nearer o b (some f)
+-- The nearest of the findings so far, if there are any, with one finding more.
+unfoldable pub closer : ℕ → Option Finding → Finding → Finding
+closer o None f = f
+closer o (Some b) f = nearer o b (Some f)

@@ -1,8 +1,7 @@
 -- The claims on the findings around a stretch, on the nearest finding, and on both calls. proofs/Claims.antt proves each statement, under
 -- the same name in snake case.
-use Rattle.std.specs.Prelude.{◌≡◌, ◌↔◌, ◌⊎◌, ℕ, ◌-◌, ◌/◌, ◌^◌, ◌≤◌, ◌<◌, length}
+use Rattle.std.specs.Prelude.{◌≡◌, ◌↔◌, ◌⊎◌, ℕ, ◌-◌, ◌/◌, ◌^◌, ◌≤◌, ◌<◌, length, Ok, Err, Some, None}
 use mathlib.Core.List.{List, [], ◌∷◌, Memᴰ}
-use Rattle.std.proofs.Math.Option.{none, some}
 use Rattle.base.specs.Refusals.{unwritten, written}
 use Rattle.base.specs.Tables.{rows_bytes}
 use Rattle.base.specs.Words.{bytes_of}
@@ -14,8 +13,6 @@ use Rattle.formatter.specs.Intake.{intake_refusal}
 use Rattle.formatter.specs.List.{row_bytes, row_numbers}
 use Rattle.findings_near.specs.Around.{inside_of, list_around, refuses, sharing_of}
 use Rattle.findings_near.specs.Nearest.{distance, give_nearest, nearest, nearest_bytes, nearest_numbers}
-use Rattle.findings_near.specs.declared.AroundAnswer.TheVariants as Around
-use Rattle.findings_near.specs.declared.NearestAnswer.TheVariants as Nearest
 
 -- Text order: each finding has a byte, and it ends before every later finding starts, or at the same offset.
 pub data InTextOrder : List Finding → Type 0 where
@@ -79,20 +76,21 @@ sharing_number text policy from to = length (sharing_of text policy from to)
 -- The claim on the call around a stretch. "refusal 7 gives the number wanted by the first that is short, the wholly-inside table before the
 -- other"; a refusal leaves both tables as they were. Both values of an answer are below 2^28.
 pub record AroundCall (text policy : List ℕ) (from to : ℕ) (inner outer : List ℕ) : Type 0 where
-  pub intake : (r : Refusal) → intake_refusal text policy ≡ some r → list_around text policy from to inner outer ≡ refuses inner outer r
-  pub inner_short : intake_refusal text policy ≡ none → length inner / row_bytes < inside_number text policy from to
+  pub intake : (r : Refusal) → intake_refusal text policy ≡ Some r → list_around text policy from to inner outer ≡ refuses inner outer r
+  pub inner_short : intake_refusal text policy ≡ None → length inner / row_bytes < inside_number text policy from to
       → list_around text policy from to inner outer ≡ refuses inner outer (TableTooShort (inside_number text policy from to))
-  pub outer_short : intake_refusal text policy ≡ none → inside_number text policy from to ≤ length inner / row_bytes
+  pub outer_short : intake_refusal text policy ≡ None → inside_number text policy from to ≤ length inner / row_bytes
       → length outer / row_bytes < sharing_number text policy from to
       → list_around text policy from to inner outer ≡ refuses inner outer (TableTooShort (sharing_number text policy from to))
-  pub done : intake_refusal text policy ≡ none → inside_number text policy from to ≤ length inner / row_bytes
+  pub done : intake_refusal text policy ≡ None → inside_number text policy from to ≤ length inner / row_bytes
       → sharing_number text policy from to ≤ length outer / row_bytes
       → list_around text policy from to inner outer ≡ record {
-        answer = Around.Listed (inside_number text policy from to) (sharing_number text policy from to);
+        answer = Ok (record { inside = inside_number text policy from to; sharing = sharing_number text policy from to });
         inner = (written (inside_number text policy from to) (rows_bytes row_numbers (inside_of text policy from to)) inner).buffer;
         outer = (written (sharing_number text policy from to) (rows_bytes row_numbers (sharing_of text policy from to)) outer).buffer;
       }
-  pub small : (n k : ℕ) → (list_around text policy from to inner outer).answer ≡ Around.Listed n k → (n < 2 ^ 28) × (k < 2 ^ 28)
+  pub small : (n k : ℕ) → (list_around text policy from to inner outer).answer ≡ Ok (record { inside = n; sharing = k })
+      → (n < 2 ^ 28) × (k < 2 ^ 28)
 
 unfoldable pub EveryAroundCall : Type 0
 EveryAroundCall = (text policy : List ℕ) (from to : ℕ) (inner outer : List ℕ) → AroundCall text policy from to inner outer
@@ -119,19 +117,19 @@ pub record IsNearest (text policy : List ℕ) (o : ℕ) (f : Finding) : Type 0 w
 unfoldable pub EveryNearest : Type 0
 EveryNearest =
     (text policy : List ℕ) (o : ℕ)
-    → ((nearest o (listed text policy) ≡ none) ↔ (listed text policy ≡ []))
-    × ((f : Finding) → (nearest o (listed text policy) ≡ some f) ↔ IsNearest text policy o f)
+    → ((nearest o (listed text policy) ≡ None) ↔ (listed text policy ≡ []))
+    × ((f : Finding) → (nearest o (listed text policy) ≡ Some f) ↔ IsNearest text policy o f)
 
 -- The claim on the call: the tests of the text and the policy come first; a text without a finding needs no row; else the row has the
 -- finding's row and the distance, or is too short.
 pub record NearestCall (text policy : List ℕ) (o : ℕ) (row : List ℕ) : Type 0 where
-  pub intake : (r : Refusal) → intake_refusal text policy ≡ some r → give_nearest text policy o row ≡ unwritten (Nearest.Refused r) row
-  pub no_finding_lem : intake_refusal text policy ≡ none → listed text policy ≡ []
-      → give_nearest text policy o row ≡ unwritten Nearest.NoFinding row
-  pub short : (f : Finding) → intake_refusal text policy ≡ none → IsNearest text policy o f → length row < nearest_bytes
-      → give_nearest text policy o row ≡ unwritten (Nearest.Refused (TableTooShort 1)) row
-  pub done : (f : Finding) → intake_refusal text policy ≡ none → IsNearest text policy o f → nearest_bytes ≤ length row
-      → give_nearest text policy o row ≡ written Nearest.Written (bytes_of (nearest_numbers o f)) row
+  pub intake : (r : Refusal) → intake_refusal text policy ≡ Some r → give_nearest text policy o row ≡ unwritten (Err r) row
+  pub no_finding_lem : intake_refusal text policy ≡ None → listed text policy ≡ []
+      → give_nearest text policy o row ≡ unwritten (Ok None) row
+  pub short : (f : Finding) → intake_refusal text policy ≡ None → IsNearest text policy o f → length row < nearest_bytes
+      → give_nearest text policy o row ≡ unwritten (Err (TableTooShort 1)) row
+  pub done : (f : Finding) → intake_refusal text policy ≡ None → IsNearest text policy o f → nearest_bytes ≤ length row
+      → give_nearest text policy o row ≡ written (Ok (Some 1)) (bytes_of (nearest_numbers o f)) row
 
 unfoldable pub EveryNearestCall : Type 0
 EveryNearestCall = (text policy : List ℕ) (o : ℕ) (row : List ℕ) → NearestCall text policy o row

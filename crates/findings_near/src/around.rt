@@ -1,7 +1,7 @@
 // The findings around a stretch of bytes (document 02, ix). One pass over the text (crate text_pass) tests it and counts both lists, and a
 // second pass up to the end of the stretch writes them. The text after the stretch is tested for UTF-8 alone. `findings_around` equals
 // `list_around` of specs/Around.antt.
-ghost use Rattle.std.specs.Prelude.{◌≡◌, true, ◌&&◌, cond, ◌+◌, ◌≤◌, ltb, length};
+ghost use Rattle.std.specs.Prelude.{◌≡◌, ◌&&◌, ◌≤◌, ltb, length};
 ghost use Rattle.base.specs.Lists.{filter};
 ghost use Rattle.base.specs.Output.{PutAt};
 ghost use Rattle.base.specs.Tables.{rows_bytes};
@@ -10,10 +10,10 @@ ghost use Rattle.formatter.specs.Findings.{listed};
 ghost use Rattle.formatter.specs.List.{row_numbers};
 ghost use Rattle.findings_near.specs.Around.{EndsAround, fill_both, holds, inside, list_around, meets, only_shares, stretch_end};
 
-use crate::AroundAnswer;
+use crate::ListedAround;
 use crate::rows::{SpanPositions, put_row_if, span_positions};
 use analysis::types::Finding;
-use base::{Check, Refusal};
+use base::Refusal;
 use formatter::intake::first_tests;
 use listing::ROW_BYTES;
 use positions::TextCount;
@@ -38,53 +38,30 @@ struct RowEnds {
 fn stretch_end(text: &[u8], to: usize) -> usize
     ensures { result ≡ stretch_end text.now to }
 {
-    if to < text.len() { to } else { text.len() }
+    to.min(text.len())
 }
 
 // Whether the bytes from `start` up to `end` lie wholly inside a stretch.
+#[tactic(auto, unfolding(crate::specs::Around::holds))]
 fn is_inside(from: usize, to: usize, start: usize, end: usize) -> bool
     ensures { result ≡ holds from to start end }
 {
-    if to <= from {
-        return false;
-    }
-    if start < from {
-        return false;
-    }
-    end <= to
+    from < to && from <= start && end <= to
 }
 
 // Whether the bytes from `start` up to `end` only share a byte with a stretch.
+#[tactic(auto, unfolding(crate::specs::Around::meets))]
 fn is_sharing(from: usize, to: usize, start: usize, end: usize) -> bool
     ensures { result ≡ meets from to start end }
 {
-    if to <= from {
-        return false;
-    }
-    if to <= start {
-        return false;
-    }
-    if end <= from {
-        return false;
-    }
-    !is_inside(from, to, start, end)
-}
-
-// 1 if a test passed, else 0.
-fn one_if(passed: bool) -> usize
-    ensures { (result ≡ cond passed 1 0) × (result ≤ 1) }
-{
-    if passed { 1 } else { 0 }
+    from < to && start < to && from < end && !is_inside(from, to, start, end)
 }
 
 // Whether a finding is present and starts before the end of the stretch.
 fn is_before(present: bool, start: usize, to: usize) -> bool
     ensures { result ≡ present && ltb start to }
 {
-    if !present {
-        return false;
-    }
-    start < to
+    present && start < to
 }
 
 // Counts the findings of both lists. The first search passes the findings that end before the stretch. The second passes those that lie
@@ -117,9 +94,9 @@ fn count_around(text: &[u8], policy: &[u8], from: usize, to: usize) -> AroundCou
         present: last_present,
         passed,
     } = next_finding(text, policy, to, end);
-    let inside = one_if(is_inside(from, to, start, end)) + passed;
-    let first_sharing = one_if(is_sharing(from, to, start, end));
-    let sharing = first_sharing + one_if(is_before(last_present, last_start, to));
+    let inside = usize::from(is_inside(from, to, start, end)) + passed;
+    let first_sharing = usize::from(is_sharing(from, to, start, end));
+    let sharing = first_sharing + usize::from(is_before(last_present, last_start, to));
     let valid_up_to = utf8_validity::valid_end(text, last_end);
     AroundCount {
         inside,
@@ -183,16 +160,6 @@ fn put_both(
     }
 }
 
-// Whether both lists are empty, by their numbers of findings.
-fn are_empty(inner_rows: usize, outer_rows: usize) -> bool
-    ensures { result ≡ true → (inner_rows ≡ 0) × (outer_rows ≡ 0) }
-{
-    if inner_rows != 0 {
-        return false;
-    }
-    outer_rows == 0
-}
-
 // Fills both tables, if each has a place for each finding of its list. `inner_rows` and `outer_rows` are the numbers of findings.
 fn fill_tables(
     text: &[u8],
@@ -203,7 +170,7 @@ fn fill_tables(
     outer_rows: usize,
     inner: &mut [u8],
     outer: &mut [u8],
-) -> AroundAnswer
+) -> Result<ListedAround, Refusal>
     requires { (inner_rows ≡ length (filter (inside from to) (listed text.now policy.now)))
         × (outer_rows ≡ length (filter (only_shares from to) (listed text.now policy.now))) }
     ensures { record { answer = result; inner = inner.new; outer = outer.new }
@@ -211,26 +178,26 @@ fn fill_tables(
         (filter (only_shares from to) (listed text.now policy.now)) inner.old outer.old }
 {
     if inner.len() / ROW_BYTES < inner_rows {
-        return AroundAnswer::Refused(Refusal::TableTooShort {
+        return Err(Refusal::TableTooShort {
             findings: inner_rows,
         });
     }
     if outer.len() / ROW_BYTES < outer_rows {
-        return AroundAnswer::Refused(Refusal::TableTooShort {
+        return Err(Refusal::TableTooShort {
             findings: outer_rows,
         });
     }
-    if are_empty(inner_rows, outer_rows) {
-        return AroundAnswer::Listed {
+    if inner_rows == 0 && outer_rows == 0 {
+        return Ok(ListedAround {
             inside: inner_rows,
             sharing: outer_rows,
-        };
+        });
     }
     put_both(text, policy, from, to, inner, outer);
-    AroundAnswer::Listed {
+    Ok(ListedAround {
         inside: inner_rows,
         sharing: outer_rows,
-    }
+    })
 }
 
 // Lists the findings of a text under a policy that lie inside a stretch, and those that only share a byte with it. The stretch is the bytes
@@ -242,13 +209,11 @@ pub fn findings_around(
     to: usize,
     inner: &mut [u8],
     outer: &mut [u8],
-) -> AroundAnswer
+) -> Result<ListedAround, Refusal>
     ensures { EndsAround (list_around text.now policy.now from to inner.old outer.old) result
         inner.new outer.new }
 {
-    if let Check::Refused(refusal) = first_tests(text, policy) {
-        return AroundAnswer::Refused(refusal);
-    }
+    first_tests(text, policy)?;
     let end = stretch_end(text, to);
     let AroundCount {
         inside,
@@ -256,7 +221,7 @@ pub fn findings_around(
         valid_up_to,
     } = count_around(text, policy, from, end);
     if valid_up_to != text.len() {
-        return AroundAnswer::Refused(Refusal::NotWellFormed { valid_up_to });
+        return Err(Refusal::NotWellFormed { valid_up_to });
     }
     fill_tables(text, policy, from, end, inside, sharing, inner, outer)
 }

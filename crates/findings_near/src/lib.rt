@@ -9,17 +9,9 @@ mod rows;
 
 use base::Refusal;
 
-// The answer of listing around a stretch: how many findings are in each table, or a refusal.
-#[derive(Clone, Copy)]
-pub enum AroundAnswer {
-    Listed { inside: usize, sharing: usize },
-    Refused(Refusal),
-}
-
-// The answer to the nearest finding: it is in the row, there is none, or a refusal.
-#[derive(Clone, Copy)]
-pub enum NearestAnswer {
-    Written,
-    NoFinding,
-    Refused(Refusal),
+// How many findings a listing around a stretch has in each table: those wholly inside the stretch, and those that share a byte with it.
+#[derive(Clone, Copy, Debug, PartialEq, Eq)]
+pub struct ListedAround {
+    pub inside: usize,
+    pub sharing: usize,
 }

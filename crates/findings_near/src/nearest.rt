@@ -1,19 +1,18 @@
 // The finding nearest to an offset (document 02, ix). One pass from finding to finding (crate text_pass) keeps the nearest finding so far.
 // `nearest_finding` equals `give_nearest` of specs/Nearest.antt.
 ghost use Rattle.std.specs.Prelude.{◌≡◌, true, ◌++◌, ◌∷◌, [], ◌<◌, ◌≤◌, length};
-ghost use Rattle.base.specs.Answers.{EndsAs};
+ghost use Rattle.base.specs.Answers.{EndsAs, optional_row};
 ghost use Rattle.base.specs.Output.{PutAt};
 ghost use Rattle.base.specs.Words.{bytes_of};
 ghost use Rattle.utf8.specs.Rfc3629.{valid_up_to_of};
 ghost use Rattle.formatter.specs.Findings.{listed};
 ghost use Rattle.formatter.specs.List.{row_numbers};
-ghost use Rattle.findings_near.specs.Helpers.{closer, given};
-ghost use Rattle.findings_near.specs.Nearest.{distance, give_nearest, nearest, nearest_bytes, nearest_row, write_nearest};
+ghost use Rattle.findings_near.specs.Helpers.{HasByte, closer};
+ghost use Rattle.findings_near.specs.Nearest.{distance, give_nearest, nearest, nearest_bytes, write_nearest};
 
-use crate::NearestAnswer;
-use crate::rows::{next_row, no_finding, put_row_if};
+use crate::rows::{NextRow, next_row, put_row_if};
 use analysis::types::Finding;
-use base::{Check, Refusal, WORD_BYTES};
+use base::{Refusal, WORD_BYTES};
 use formatter::intake::first_tests;
 use listing::ROW_BYTES;
 use positions::TextCount;
@@ -24,8 +23,7 @@ const NEAREST_BYTES: usize = ROW_BYTES + WORD_BYTES;
 // The nearest finding, if one was found, and the length of the longest well-formed beginning.
 #[derive(Clone, Copy)]
 struct Nearby {
-    found: bool,
-    finding: Finding,
+    finding: Option<Finding>,
     valid_up_to: usize,
 }
 
@@ -44,48 +42,44 @@ fn distance_to(offset: usize, finding: Finding) -> usize
 }
 
 // The nearer of a finding and the best of those before it, if there is one.
-fn closer_of(offset: usize, found: bool, best: Finding, finding: Finding) -> Finding
-    requires { (found ≡ true → best.start < best.end) × (finding.start < finding.end) }
-    ensures { result ≡ closer offset found best finding }
+fn closer_of(offset: usize, best: Option<Finding>, finding: Finding) -> Finding
+    requires { HasByte best × (finding.start < finding.end) }
+    ensures { result ≡ closer offset best finding }
 {
-    if !found {
+    let Some(best) = best else {
         return finding;
-    }
+    };
     let old = distance_to(offset, best);
     let new = distance_to(offset, finding);
-    if old <= new {
-        return best;
-    }
-    finding
+    if old <= new { best } else { finding }
 }
 
 // Finds the finding that is nearest to an offset.
 fn nearest_in(text: &[u8], policy: &[u8], offset: usize) -> Nearby
-    ensures nearest { given result.found result.finding ≡ nearest offset (listed text.now policy.now) }
+    ensures nearest { result.finding ≡ nearest offset (listed text.now policy.now) }
     ensures valid { result.valid_up_to ≡ valid_up_to_of text.now }
-    ensures some { result.found ≡ true → result.finding.start < result.finding.end }
+    ensures some { HasByte result.finding }
 {
-    let mut found = false;
-    let mut best = no_finding(0);
+    let mut best = None;
     let mut at = 0;
     let mut before = TextCount { chars: 0, units: 0 };
     loop {
-        let row = next_row(text, policy, at, before);
-        let finding = row.finding;
-        if !row.present {
-            return Nearby {
-                found,
-                finding: best,
-                valid_up_to: finding.start,
-            };
+        match next_row(text, policy, at, before) {
+            NextRow::Found(finding) => {
+                best = Some(closer_of(offset, best, finding));
+                at = finding.end;
+                before = TextCount {
+                    chars: finding.char_end,
+                    units: finding.unit_end,
+                };
+            }
+            NextRow::End { valid_up_to } => {
+                return Nearby {
+                    finding: best,
+                    valid_up_to,
+                };
+            }
         }
-        best = closer_of(offset, found, best, finding);
-        found = true;
-        at = finding.end;
-        before = TextCount {
-            chars: finding.char_end,
-            units: finding.unit_end,
-        };
     }
 }
 
@@ -101,36 +95,42 @@ fn put_nearest(row: &mut [u8], finding: Finding, distance: usize) -> usize
 }
 
 // Writes the finding that was found, if there is one.
-fn write_found(offset: usize, found: bool, finding: Finding, row: &mut [u8]) -> NearestAnswer
-    requires { found ≡ true → finding.start < finding.end }
-    ensures { record { answer = result; buffer = row.new } ≡ write_nearest offset (given found finding) row.old }
+fn write_found(
+    offset: usize,
+    found: Option<Finding>,
+    row: &mut [u8],
+) -> Result<Option<usize>, Refusal>
+    requires { HasByte found }
+    ensures { record { answer = result; buffer = row.new } ≡ write_nearest offset found row.old }
 {
-    if !found {
-        return NearestAnswer::NoFinding;
-    }
+    let Some(finding) = found else {
+        return Ok(None);
+    };
     if row.len() < NEAREST_BYTES {
-        return NearestAnswer::Refused(Refusal::TableTooShort { findings: 1 });
+        return Err(Refusal::TableTooShort { findings: 1 });
     }
     let distance = distance_to(offset, finding);
     put_nearest(row, finding, distance);
-    NearestAnswer::Written
+    Ok(Some(1))
 }
 
 // Writes the finding of a text under a policy that is nearest to an offset, and its distance.
-pub fn nearest_finding(text: &[u8], policy: &[u8], offset: usize, row: &mut [u8]) -> NearestAnswer
-    ensures { EndsAs nearest_row (give_nearest text.now policy.now offset row.old) result
+pub fn nearest_finding(
+    text: &[u8],
+    policy: &[u8],
+    offset: usize,
+    row: &mut [u8],
+) -> Result<Option<usize>, Refusal>
+    ensures { EndsAs optional_row (give_nearest text.now policy.now offset row.old) result
         row.new }
 {
-    if let Check::Refused(refusal) = first_tests(text, policy) {
-        return NearestAnswer::Refused(refusal);
-    }
+    first_tests(text, policy)?;
     let Nearby {
-        found,
         finding,
         valid_up_to,
     } = nearest_in(text, policy, offset);
     if valid_up_to != text.len() {
-        return NearestAnswer::Refused(Refusal::NotWellFormed { valid_up_to });
+        return Err(Refusal::NotWellFormed { valid_up_to });
     }
-    write_found(offset, found, finding, row)
+    write_found(offset, finding, row)
 }

@@ -8,16 +8,16 @@ ghost use Rattle.positions.specs.Positions.{AtPosition, capped_plus, count_betwe
 ghost use Rattle.formatter.specs.List.{row_bytes, row_numbers};
 ghost use Rattle.findings_near.specs.Helpers.{GivesRow};
 
-use analysis::types::{Finding, NonCanonicality};
+use analysis::types::Finding;
 use listing::{ROW_BYTES, row_numbers};
 use positions::{TextCount, add_counts, count_between};
 use text_pass::findings::{FindingSpan, next_finding};
 
-// A finding, if one is present. Else `finding` starts at the end of the longest well-formed beginning.
+// The next finding, or the end of the longest well-formed beginning if there is none.
 #[derive(Clone, Copy)]
-pub(crate) struct NextRow {
-    pub(crate) present: bool,
-    pub(crate) finding: Finding,
+pub(crate) enum NextRow {
+    Found(Finding),
+    End { valid_up_to: usize },
 }
 
 // The positions of a finding's start and of its end.
@@ -25,22 +25,6 @@ pub(crate) struct NextRow {
 pub(crate) struct SpanPositions {
     pub(crate) first: TextCount,
     pub(crate) last: TextCount,
-}
-
-// An empty finding at an offset: it stands for "no finding".
-pub(crate) fn no_finding(at: usize) -> Finding
-    ensures { result.start ≡ at }
-{
-    let counts = NonCanonicality::empty();
-    Finding {
-        start: at,
-        end: at,
-        counts,
-        char_start: 0,
-        char_end: 0,
-        unit_start: 0,
-        unit_end: 0,
-    }
 }
 
 // The positions of a finding's start and of its end, counted on from the position `before` of the offset `at`.
@@ -72,11 +56,10 @@ pub(crate) fn next_row(text: &[u8], policy: &[u8], at: usize, before: TextCount)
         passed: _,
     } = next_finding(text, policy, 0, at);
     if !present {
-        let finding = no_finding(start);
-        return NextRow { present, finding };
+        return NextRow::End { valid_up_to: start };
     }
     let SpanPositions { first, last } = span_positions(text, at, start, end, before);
-    let finding = Finding {
+    NextRow::Found(Finding {
         start,
         end,
         counts,
@@ -84,8 +67,7 @@ pub(crate) fn next_row(text: &[u8], policy: &[u8], at: usize, before: TextCount)
         char_end: last.chars,
         unit_start: first.units,
         unit_end: last.units,
-    };
-    NextRow { present, finding }
+    })
 }
 
 // Puts the row of a finding into the table if it is wanted, and returns where it ends. The table has room for it then.

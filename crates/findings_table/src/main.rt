@@ -3,18 +3,15 @@
 // of lines, of findings, of refusals, and of lines for which the two tables differ.
 #![tactic(auto)]
 
-ghost use Rattle.std.specs.Prelude.{◌+◌, ◌≤◌, length};
-ghost use Rattle.formatter.specs.List.{row_bytes};
-
 use analysis::types::Finding;
-use base::{ListAnswer, WORD_BYTES};
+use base::{Refusal, WORD_BYTES};
 use listing::table::{FEW, FewFindings, list_few};
-use listing::{ROW_BYTES, ROW_NUMBERS, list_findings, row_numbers};
+use listing::{ROW_BYTES, list_findings, row_numbers};
 use message_io::{Ending, Message};
 use policy::POLICY_BYTES;
-use std::io;
-use std::num::wrapping_add_usize;
-use tilghorz::answer_word::list_word;
+use std::fmt::Write;
+use std::{fmt, io};
+use tilghorz::answer_word::answer_word;
 
 // The length of the longest input. The buffer is one byte longer, so that the program notices a longer input.
 const INPUT_LIMIT: usize = 12_288;
@@ -25,7 +22,7 @@ const INPUT_ROOM: usize = INPUT_LIMIT + 1;
 const TABLE_BYTES: usize = FEW * ROW_BYTES;
 
 // The counts for the lines so far.
-#[derive(Clone, Copy)]
+#[derive(Clone, Copy, Debug, Default, PartialEq, Eq)]
 struct Seen {
     lines: usize,
     findings: usize,
@@ -33,128 +30,75 @@ struct Seen {
     different: usize,
 }
 
-// Converts a number to 64 bits.
-fn wide(n: usize) -> u64 {
-    n as u64
+impl Seen {
+    // Adds a line: its answer, and whether the two tables were equal.
+    fn add_line(&mut self, answer: Result<usize, Refusal>, is_same: bool) {
+        self.lines = self.lines.saturating_add(1);
+        match answer {
+            Ok(findings) => self.findings = self.findings.saturating_add(findings),
+            Err(_) => self.refused = self.refused.saturating_add(1),
+        }
+        if !is_same {
+            self.different = self.different.saturating_add(1);
+        }
+    }
 }
 
-// Tests whether the bytes from an offset on are the row of a finding.
-fn same_row(finding: Finding, bytes: &[u8], start: usize) -> bool
-    requires { start + row_bytes ≤ length bytes.now }
-{
-    let numbers = row_numbers(finding);
-    let mut i = 0;
-    while i < ROW_NUMBERS {
-        if base::read_word(bytes, start + i * WORD_BYTES) != wide(numbers[i]) {
-            return false;
-        }
-        i += 1;
+impl fmt::Display for Seen {
+    fn fmt<W: Write>(&self, f: &mut fmt::Formatter<W>) -> fmt::Result {
+        let Seen {
+            lines,
+            findings,
+            refused,
+            different,
+        } = *self;
+        write!(
+            f,
+            "{lines} lines, {findings} findings, {refused} refused, {different} different"
+        )
     }
-    true
+}
+
+// Tests whether the bytes are the row of a finding.
+fn is_row(finding: Finding, row: &[u8]) -> bool {
+    let (words, _) = row.as_chunks::<WORD_BYTES>();
+    words
+        .iter()
+        .map(|word| u64::from_le_bytes(*word))
+        .eq(row_numbers(finding).iter().map(|number| *number as u64))
 }
 
 // Tests whether the two tables are equal in every place, also in the places after the findings.
-fn same_tables(findings: [Finding; FEW], bytes: &[u8; TABLE_BYTES]) -> bool {
-    let mut k = 0;
-    while k < FEW {
-        let finding = findings[k];
-        if !same_row(finding, bytes, k * ROW_BYTES) {
-            return false;
-        }
-        k += 1;
-    }
-    true
+fn same_tables(findings: &[Finding; FEW], bytes: &[u8; TABLE_BYTES]) -> bool {
+    findings
+        .iter()
+        .zip(bytes.chunks_exact(ROW_BYTES))
+        .all(|(finding, row)| is_row(*finding, row))
 }
 
-// Adds a line to the counts: its answer, and whether the two tables were equal.
-fn add_line(seen: Seen, answer: ListAnswer, same: bool) -> Seen {
-    let mut next = seen;
-    next.lines = wrapping_add_usize(seen.lines, 1);
-    match answer {
-        ListAnswer::Listed { findings } => {
-            next.findings = wrapping_add_usize(seen.findings, findings);
-        }
-        ListAnswer::Refused(_) => {
-            next.refused = wrapping_add_usize(seen.refused, 1);
-        }
-    }
-    if !same {
-        next.different = wrapping_add_usize(seen.different, 1);
-    }
-    next
-}
-
-// Lists the findings of a line both ways.
-fn list_line(line: &[u8], policy: &[u8], seen: Seen) -> Seen {
+// Lists the findings of a line both ways, and adds it to the counts.
+fn list_line(line: &[u8], policy: &[u8], seen: &mut Seen) {
     let FewFindings { answer, findings } = list_few(line, policy);
     let mut bytes = [0u8; TABLE_BYTES];
     let listed = list_findings(line, policy, &mut bytes);
-    let mut same = false;
-    if list_word(answer) == list_word(listed) {
-        same = same_tables(findings, &bytes);
-    }
-    add_line(seen, answer, same)
-}
-
-// Returns the end of the line that starts at an offset.
-fn line_end(message: &[u8], start: usize) -> usize
-    requires { start ≤ length message.now }
-    ensures { (start ≤ result) × (result ≤ length message.now) }
-{
-    let mut at = start;
-    while at < message.len() {
-        if message[at] == b'\n' {
-            return at;
-        }
-        at += 1;
-    }
-    at
+    let is_same = answer_word(answer) == answer_word(listed) && same_tables(&findings, &bytes);
+    seen.add_line(answer, is_same);
 }
 
 // Lists the findings of each line of a message.
 fn list_lines(message: &[u8], policy: &[u8]) -> Seen {
-    let mut seen = Seen {
-        lines: 0,
-        findings: 0,
-        refused: 0,
-        different: 0,
-    };
-    let mut at = 0;
-    while at < message.len() {
-        let end = line_end(message, at);
-        seen = list_line(&message[at..end], policy, seen);
-        if end == message.len() {
-            return seen;
-        }
-        at = end + 1;
+    let mut seen = Seen::default();
+    for line in message.split_inclusive(|b| *b == b'\n') {
+        list_line(line.strip_suffix(b"\n").unwrap_or(line), policy, &mut seen);
     }
     seen
 }
 
-// Writes a number and the name of what it counts.
-fn say_count(rt: &impl Print, n: usize, what: &str) -> io::Result<()> {
-    print!(rt; "{n}{what}")
-}
-
-// Lists the findings of each line, and writes the counts.
+// Lists the findings of each line under the default policy, and writes the counts.
 fn list_message(rt: &impl Print, message: &[u8]) -> io::Result<()> {
     let mut policy = [0u8; POLICY_BYTES];
     message_io::put_default_policy(&mut policy);
-    let Seen {
-        lines,
-        findings,
-        refused,
-        different,
-    } = list_lines(message, &policy);
-    say_count(rt, lines, " lines, ")?;
-    say_count(rt, findings, " findings, ")?;
-    say_count(rt, refused, " refused, ")?;
-    say_count(rt, different, " different\n")
-}
-
-// Writes that the input is longer than the limit.
-fn say_too_long(rt: &impl Eprint) -> io::Result<()> {
-    rt.eprint("more than 12,288 bytes\n")
+    println!(rt; "{}", list_lines(message, &policy))
 }
 
 fn main(rt: HostRuntime) -> io::Result<()> {
@@ -162,7 +106,7 @@ fn main(rt: HostRuntime) -> io::Result<()> {
     let Message { ending, len } = message_io::read_message(&mut rt.stdin(), &mut buf);
     match ending {
         Ending::Whole => list_message(&rt, &buf[..len]),
-        Ending::TooLong => say_too_long(&rt),
+        Ending::TooLong => eprintln!(rt; "more than 12,288 bytes"),
         Ending::Failed => Err(io::Error::other("standard input")),
     }
 }

@@ -1,8 +1,8 @@
 -- The filed text of the message and the buffer is the program's output, for each answer of formatting.
+use Rattle.std.specs.Prelude.{Ok, Err, Some, None, Result, Option}
 use mathlib.Core.Path.{◌≡◌, refl, ap, sym, ◌∙◌, subst}
 use mathlib.Core.Bool.{Bool, true, false, cond}
 use mathlib.Core.List.{List}
-use mathlib.Core.Option.{Option}
 use Prim.Native.Nat.{ℕ, ◌<◌, ◌≤◌}
 use native.Mathlib.Nat.{zero-add}
 use native.Mathlib.Omega.{arith}
@@ -17,8 +17,6 @@ use Rattle.base.proofs.Output.{bytes_put}
 use Rattle.formatter.specs.Filed.{filed_text}
 use Rattle.formatter.specs.Format.{formatted}
 use Rattle.formatter.specs.Intake.{intake_refusal}
-use Rattle.formatter.specs.declared.FormatAnswer.{FormatAnswer}
-use Rattle.formatter.specs.declared.FormatAnswer.TheVariants.{Changed, Refused, Unchanged}
 use Rattle.message_io.specs.Lines.{refusal_line}
 use Rattle.message_io.proofs.Outputs.{passed, refused, too_long}
 use Rattle.message_io.proofs.Texts.{front}
@@ -53,24 +51,25 @@ module _ (message : List ℕ) where
   unfolding output_of
   long_filed after n h e = front-filed after n ∙ e ∙ too_long message_limit message intakes result h
 
-  module _ {before after : List ℕ} {a : FormatAnswer} (s : FormatsMessage message before a after) (h : length message ≤ message_limit) where
-    pub unchanged-filed : a ≡ Unchanged → filed_text message after false 0 ≡ output_of message
+  module _ {before after : List ℕ} {a : Result (Option ℕ) Refusal} (s : FormatsMessage message before a after)
+      (h : length message ≤ message_limit) where
+    pub unchanged-filed : a ≡ Ok None → filed_text message after false 0 ≡ output_of message
     unfolding filed_text output_of
     unchanged-filed e =
-        let t = subst (λ (a : FormatAnswer). AnswerMeans message a after) e s.meaning in
+        let t = subst (λ (a : Result (Option ℕ) Refusal). AnswerMeans message a after) e s.meaning in
         t.1 ∙ passed message_limit message intakes result h t.0
 
-    pub changed-filed : {n : ℕ} → a ≡ Changed n → filed_text message after true n ≡ output_of message
+    pub changed-filed : {n : ℕ} → a ≡ Ok (Some n) → filed_text message after true n ≡ output_of message
     unfolding output_of
     changed-filed {n} e =
-        let t = subst (λ (a : FormatAnswer). AnswerMeans message a after) e s.meaning in
+        let t = subst (λ (a : Result (Option ℕ) Refusal). AnswerMeans message a after) e s.meaning in
         front-filed after n ∙ t.1 ∙ passed message_limit message intakes result h t.0
 
-    pub refused-filed : {r : Refusal} (out : List ℕ) (n : ℕ) → a ≡ Refused r → take n out ≡ refusal_line r
+    pub refused-filed : {r : Refusal} (out : List ℕ) (n : ℕ) → a ≡ Err r → take n out ≡ refusal_line r
         → filed_text message out true n ≡ output_of message
     unfolding output_of
     refused-filed out n e l =
-        let t = subst (λ (a : FormatAnswer). AnswerMeans message a after) e s.meaning in
+        let t = subst (λ (a : Result (Option ℕ) Refusal). AnswerMeans message a after) e s.meaning in
         front-filed out n ∙ l ∙ refused message_limit message intakes result h t
 
 -- ---- the program as a whole

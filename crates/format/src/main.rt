@@ -12,7 +12,6 @@ ghost use Rattle.formatter.specs.Filed.{filed_text};
 ghost use Rattle.format.specs.Output.{FormatsMessage, message_limit, output_of};
 
 use base::Refusal;
-use formatter::FormatAnswer;
 use formatter::filed::filed_text;
 use formatting::format_text;
 use message_io::line::LINE_ROOM;
@@ -50,7 +49,7 @@ fn put_refusal(out: &mut [u8], refusal: Refusal) -> usize
 
 // Formats a message under the default policy, into a buffer that is long enough for every formatted text under this
 // policy. So refusal 8 is no answer.
-fn format_message(message: &[u8], out: &mut [u8]) -> FormatAnswer
+fn format_message(message: &[u8], out: &mut [u8]) -> Result<Option<usize>, Refusal>
     requires { 5 * length message.now ≤ 2 * length out.old }
     ensures { FormatsMessage message.now out.old result out.new }
 {
@@ -72,15 +71,15 @@ fn output_of(message: &[u8], out: &mut [u8]) -> Output
         };
     }
     match format_message(message, out) {
-        FormatAnswer::Unchanged => Output {
+        Ok(None) => Output {
             in_buffer: false,
             len: 0,
         },
-        FormatAnswer::Changed { len } => Output {
+        Ok(Some(len)) => Output {
             in_buffer: true,
             len,
         },
-        FormatAnswer::Refused(refusal) => {
+        Err(refusal) => {
             let len = put_refusal(out, refusal);
             Output {
                 in_buffer: true,

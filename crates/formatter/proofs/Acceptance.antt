@@ -1,8 +1,8 @@
 -- A call on the book is accepted exactly as document 01 says, and else gets the first refusal that fits.
+use Rattle.std.specs.Prelude.{Err, Result, Option, Some, None}
 use mathlib.Core.Path.{◌≡◌, refl, ap, sym, ◌∙◌, subst}
 use mathlib.Core.Logic.{◌↔◌}
 use mathlib.Core.Bool.{Bool, true, false, true≢false}
-use mathlib.Core.Option.{Option, none, some}
 use mathlib.Core.List.{List, map, Memᴰ}
 use Prim.Native.Nat.{ℕ}
 use native.Mathlib.Omega.{arith}
@@ -19,8 +19,6 @@ use Rattle.analysis.specs.Decisions.{bad_decision, decisions_refusal, judge, wan
 use Rattle.analysis.specs.Findings.{finding_at}
 use Rattle.formatter.specs.Mend.{Call}
 use Rattle.base.specs.Refusals.{After}
-use Rattle.analysis.specs.declared.types.MendAnswer.{MendAnswer}
-use Rattle.analysis.specs.declared.types.MendAnswer.TheVariants.{Refused}
 use Rattle.base.specs.declared.Refusal.{Refusal}
 use Rattle.base.specs.declared.Refusal.TheVariants.{BadDecision}
 use Rattle.formatter.proofs.Judging.{
@@ -45,7 +43,7 @@ module _ (policy : List ℕ) (ok : is_policy policy ≡ true) where
   -- ---- acceptance and refusals
 
   opening_of : (es : List Entry) (o : OpenFinding) → InRow policy es → Memᴰ o (open_findings policy es)
-      → open_finding_at (place o) (open_findings policy es) ≡ some o
+      → open_finding_at (place o) (open_findings policy es) ≡ Some o
   opening_of es o h m = opening-place P 0 0 0 es o (omega arith) h.full m
 
   pub names_iff : (es : List Entry) (c : Call) → InRow policy es → (mends policy es c ≡ true) ↔ MendsOpenFinding policy es c
@@ -54,10 +52,10 @@ module _ (policy : List ℕ) (ok : is_policy policy ≡ true) where
       O : List OpenFinding
       O = open_findings policy es
 
-      hit : (o : Option OpenFinding) → open_finding_at c.offset O ≡ o → (x : Item) → item_at o ≡ some x → (y : OpenFinding)
+      hit : (o : Option OpenFinding) → open_finding_at c.offset O ≡ o → (x : Item) → item_at o ≡ Some x → (y : OpenFinding)
           × Hit c.offset O y × (y.item ≡ x)
-      hit none e x i = let z : ◌≡◌ {A = ℕ} 0 1 = cc in absurd (omega arith)
-      hit (some y) e x i = let z : y.item ≡ x = cc in (y, opening_hit c.offset O y e, z)
+      hit None e x i = let z : ◌≡◌ {A = ℕ} 0 1 = cc in absurd (omega arith)
+      hit (Some y) e x i = let z : y.item ≡ x = cc in (y, opening_hit c.offset O y e, z)
 
       there : mends policy es c ≡ true → MendsOpenFinding policy es c
       there e =
@@ -73,24 +71,24 @@ module _ (policy : List ℕ) (ok : is_policy policy ≡ true) where
 
       back : MendsOpenFinding policy es c → mends policy es c ≡ true
       back n =
-          let q : finding_at c.offset (map at_place O) ≡ some n.finding.item =
+          let q : finding_at c.offset (map at_place O) ≡ Some n.finding.item =
           opening-finding c.offset O ∙ ap (λ (o : ℕ). item_at (open_finding_at o O)) n.at.there
           ∙ ap item_at (opening_of es n.finding h n.at.is_open) in
           let z : Passes P (finding_at c.offset (map at_place O)) c.decisions (book_text policy (marked policy es c)) c.out =
           record { item = n.finding.item; found_it = q; as_many = n.as_many; valid = n.valid; fits = n.room } in
-          mends_is policy es c ∙ ap (λ (a : After MendAnswer ℕ). is_mended a.answer) (passes-written P z)
+          mends_is policy es c ∙ ap (λ (a : After (Result ℕ Refusal) ℕ). is_mended a.answer) (passes-written P z)
 
   late : (es : List Entry) (c : Call) → InRow policy es → (o : Option OpenFinding) → open_finding_at c.offset (open_findings policy es) ≡ o
       → is_mended (judge P (item_at o) c.decisions (book_text policy (marked policy es c)) c.out).answer ≡ false
       → FirstRefusal policy es c (judge P (item_at o) c.decisions (book_text policy (marked policy es c)) c.out).answer
   unfolding judge decisions_refusal
-  late es c h none e i =
+  late es c h None e i =
       no_finding_lem (λ o q.
-      let y : open_finding_at c.offset (open_findings policy es) ≡ some o = ap (λ (n : ℕ). open_finding_at n (open_findings policy es))
+      let y : open_finding_at c.offset (open_findings policy es) ≡ Some o = ap (λ (n : ℕ). open_finding_at n (open_findings policy es))
       q.there ∙ opening_of es o h q.is_open in
       let z : ◌≡◌ {A = ℕ} 0 1 = cc in
       omega arith)
-  late es c h (some o) e i = go (eqb (length ds) n) (bad_decision 0 ds) (leb (length r) (length c.out)) refl refl refl i
+  late es c h (Some o) e i = go (eqb (length ds) n) (bad_decision 0 ds) (leb (length r) (length c.out)) refl refl refl i
     where
       ds : List ℕ
       ds = c.decisions
@@ -106,19 +104,19 @@ module _ (policy : List ℕ) (ok : is_policy policy ≡ true) where
 
       go : (a : Bool) (q : Option Refusal) (b : Bool) → eqb (length ds) n ≡ a → bad_decision 0 ds ≡ q → leb (length r) (length c.out) ≡ b
           → is_mended (tested a n q b r c.out).answer ≡ false → FirstRefusal policy es c (tested a n q b r c.out).answer
-      go true none true f j l i = absurd (true≢false i)
-      go true none false f j l i = no_room o there (eqb-true (length ds) n f) (bad-none 0 ds j) (leb-false (length r) (length c.out) l)
-      go true (some m) b f j l i =
+      go true None true f j l i = absurd (true≢false i)
+      go true None false f j l i = no_room o there (eqb-true (length ds) n f) (bad-none 0 ds j) (leb-false (length r) (length c.out) l)
+      go true (Some m) b f j l i =
           let d = some-bad 0 ds m j in
           let z : m ≡ BadDecision (length d.before) = d.index ∙ ap BadDecision (zero-add (length d.before)) in
-          subst (λ (m : Refusal). FirstRefusal policy es c (Refused m)) (sym z)
+          subst (λ (m : Refusal). FirstRefusal policy es c (Err m)) (sym z)
           (above-one o there (eqb-true (length ds) n f) d.before d.after d.bad d.whole d.fine d.above)
       go false q b f j l i = few-or-many o there (eqb-false (length ds) n f)
 
   pub refusal_first : (es : List Entry) (c : Call) → InRow policy es → mends policy es c ≡ false
       → FirstRefusal policy es c (book_outcome policy es c).answer
   refusal_first es c h i =
-      let J : Option Item → After MendAnswer ℕ = λ o. judge P o c.decisions (book_text policy (marked policy es c)) c.out in
+      let J : Option Item → After (Result ℕ Refusal) ℕ = λ o. judge P o c.decisions (book_text policy (marked policy es c)) c.out in
       let q = opening-finding c.offset (open_findings policy es) in
       subst (λ (o : Option Item). FirstRefusal policy es c (J o).answer) (sym q)
       (late es c h (open_finding_at c.offset (open_findings policy es)) refl

@@ -1,9 +1,9 @@
 -- Formatting a repaired text. The repaired text is well-formed, so only the test of its length and the tests of the policy can refuse it.
+use Rattle.std.specs.Prelude.{Some}
 use mathlib.Core.Path.{◌≡◌, refl, sym, ap, ◌∙◌}
 use mathlib.Core.Logic.{⊎_elim}
 use mathlib.Core.Bool.{Bool, true, false}
 use mathlib.Core.List.{List}
-use mathlib.Core.Option.{some}
 use Prim.Native.Nat.{ℕ, ◌≤◌}
 use native.Mathlib.Omega.{arith}
 use lib.Dec.{eqb, leb}
@@ -33,14 +33,14 @@ module _ (text policy : List ℕ) where
       → intake_refusal (repaired text) policy ≡ by_tests_lem a b true (policy_fault policy) (repaired text)
   tests p q = intake_is (repaired text) policy p q (whole text)
 
-  never_3 : (a b : Bool) (n : ℕ) → by_tests_lem a b true (policy_fault policy) (repaired text) ≡ some (NotWellFormed n) → ⊥
+  never_3 : (a b : Bool) (n : ℕ) → by_tests_lem a b true (policy_fault policy) (repaired text) ≡ Some (NotWellFormed n) → ⊥
   never_3 false b n e = let z : ◌≡◌ {A = ℕ} 0 1 = cc in omega arith
   never_3 true false n e =
       ⊎_elim (λ (f : policy_fault policy ≡ NotAPolicy). let z : ◌≡◌ {A = ℕ} 0 1 = cc in omega arith)
       (λ f. let z : ◌≡◌ {A = ℕ} 0 1 = cc in omega arith) (fault_is policy)
   never_3 true true n e = let z : ◌≡◌ {A = ℕ} 0 1 = cc in omega arith
 
-  only_long : (a b : Bool) → by_tests_lem a b true (policy_fault policy) (repaired text) ≡ some TextTooLong → a ≡ false
+  only_long : (a b : Bool) → by_tests_lem a b true (policy_fault policy) (repaired text) ≡ Some TextTooLong → a ≡ false
   only_long false b e = refl
   only_long true false e =
       ⊎_elim (λ (f : policy_fault policy ≡ NotAPolicy). let z : ◌≡◌ {A = ℕ} 0 1 = cc in absurd (omega arith))
@@ -62,5 +62,5 @@ module _ (text policy : List ℕ) where
         as_before = λ w out. ap (λ (t : List ℕ). format t policy out) (sym (well_formed_is w).text);
       }
 
-pub passes_limit : (n : ℕ) (policy : List ℕ) → 5592406 ≤ n → intake_refusal (repaired (replicate n 0xFF)) policy ≡ some TextTooLong
+pub passes_limit : (n : ℕ) (policy : List ℕ) → 5592406 ≤ n → intake_refusal (repaired (replicate n 0xFF)) policy ≡ Some TextTooLong
 passes_limit n policy h = too_long (repaired (replicate n 0xFF)) policy (omega (arith, (reached n).0))

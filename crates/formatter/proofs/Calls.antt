@@ -1,7 +1,7 @@
 -- A call on a book's text has the outcome of the same call on the book, and the text after it is that of the next book.
+use Rattle.std.specs.Prelude.{Ok, Err, Result, Option, Some, None}
 use mathlib.Core.Path.{◌≡◌, refl, ap, sym, ◌∙◌, subst}
 use mathlib.Core.Bool.{Bool, true, false, cond, true≢false}
-use mathlib.Core.Option.{Option, none, some}
 use mathlib.Core.List.{List, ◌++◌, map}
 use Prim.Native.Nat.{ℕ, ◌+◌, ◌*◌, ◌≤◌}
 use native.Mathlib.Omega.{arith}
@@ -28,8 +28,6 @@ use Rattle.analysis.specs.Findings.{finding_at}
 use Rattle.formatter.specs.Mend.{Call, exchanged, mend, mend_call, next_from, next_text}
 use Rattle.base.specs.Refusals.{After, unwritten, or_else, written}
 use Rattle.formatter.specs.Intake.{intake_refusal}
-use Rattle.analysis.specs.declared.types.MendAnswer.{MendAnswer}
-use Rattle.analysis.specs.declared.types.MendAnswer.TheVariants.{Mended, Refused}
 use Rattle.base.specs.declared.Refusal.{Refusal}
 use Rattle.formatter.proofs.Books.{scalar_book, size_book}
 use Rattle.formatter.proofs.Judging.{Passes, book_outcome, mended_passes, mended_written, mends_is}
@@ -38,13 +36,13 @@ use Rattle.formatter.proofs.Mending.{Derived, mending, open_found}
 use Rattle.formatter.proofs.Passing.{intake_is}
 use Rattle.formatter.proofs.Splicing.{mark_items, mark_at, marks_are, openings_are, spliced}
 
-next-kept : (b : List ℕ) (a : MendAnswer) (o : List ℕ) → is_mended a ≡ false → next_from b a o ≡ b
-next-kept b (Mended n) o e = absurd (true≢false e)
-next-kept b (Refused r) o e = refl
+next-kept : (b : List ℕ) (a : Result ℕ Refusal) (o : List ℕ) → is_mended a ≡ false → next_from b a o ≡ b
+next-kept b (Ok n) o e = absurd (true≢false e)
+next-kept b (Err r) o e = refl
 
 module _ (policy : List ℕ) where
   -- An accepted text passes the tests 1, 2 and 3.
-  pub pass_intake : (b : List ℕ) → Accepted policy b → intake_refusal b policy ≡ none
+  pub pass_intake : (b : List ℕ) → Accepted policy b → intake_refusal b policy ≡ None
   pass_intake b h =
       intake_is b policy (le-leb (length b) 16777216 h.short) h.is_policy_lem
       (eq-eqb (valid_up_to_of b) (length b) (well_formed_whole h.well_formed))
@@ -100,12 +98,12 @@ module _ (policy : List ℕ) where
         → judge P o c.decisions (exchanged (book_text policy es) P c.offset (map meaning c.decisions) o) c.out
         ≡ judge P o c.decisions (book_text policy (marked policy es c)) c.out
     unfolding judge decisions_refusal
-    judge-same es c none e = refl
-    judge-same es c (some x) e =
+    judge-same es c None e = refl
+    judge-same es c (Some x) e =
         let ds = map meaning c.decisions in
         let s = spliced P 0 c.offset ds es x e in
         let j : s.offset ≡ c.offset = omega (arith, s.there) in
-        ap (λ (r : List ℕ). judge P (some x) c.decisions r c.out)
+        ap (λ (r : List ℕ). judge P (Some x) c.decisions r c.out)
         (subst (λ (i : ℕ). take i (book_text policy es) ++ encode_all (replacement P x ds)
         ++ drop (i + length (encode_all x.chars)) (book_text policy es) ≡ book_text policy (mark_at P 0 c.offset ds es)) j s.same
         ∙ ap (book_text policy) (sym (marked-is es c)))
@@ -114,9 +112,9 @@ module _ (policy : List ℕ) where
     unfolding mend
     call_same es c h =
         let b = book_text policy es in
-        let f : Option Item → After MendAnswer ℕ = λ o. judge P o c.decisions (exchanged b P c.offset (map meaning c.decisions) o)
+        let f : Option Item → After (Result ℕ Refusal) ℕ = λ o. judge P o c.decisions (exchanged b P c.offset (map meaning c.decisions) o)
         c.out in
-        ap (λ (o : Option Refusal). or_else o (λ (r : Refusal). unwritten (Refused r) c.out)
+        ap (λ (o : Option Refusal). or_else o (λ (r : Refusal). unwritten (Err r) c.out)
         (f (finding_at c.offset (findings b policy)))) (pass_intake b (accepted-book es h))
         ∙ ap (λ (l : List Found). f (finding_at c.offset l)) (findings-book es h.base)
         ∙ judge-same es c _ refl
@@ -126,11 +124,11 @@ module _ (policy : List ℕ) where
     -- A call is accepted exactly when the book says so.
     pub accepted-same : (es : List Entry) (c : Call) → Sound es → is_mended (mend_call (book_text policy es) policy c).answer
         ≡ mends policy es c
-    accepted-same es c h = ap (λ (a : After MendAnswer ℕ). is_mended a.answer) (call_same es c h) ∙ sym (mends_is policy es c)
+    accepted-same es c h = ap (λ (a : After (Result ℕ Refusal) ℕ). is_mended a.answer) (call_same es c h) ∙ sym (mends_is policy es c)
 
     -- What an accepted call on the book writes.
     pub book-writes : (es : List Entry) (c : Call) → mends policy es c ≡ true
-        → book_outcome policy es c ≡ written (Mended (length (book_text policy (marked policy es c))))
+        → book_outcome policy es c ≡ written (Ok (length (book_text policy (marked policy es c))))
         (book_text policy (marked policy es c))
         c.out
     book-writes es c e =
@@ -141,14 +139,14 @@ module _ (policy : List ℕ) where
         ≡ book_text policy (cond b (marked policy es c) es)
     next-same es c true e =
         let r = book_text policy (marked policy es c) in
-        ap (λ (a : After MendAnswer ℕ). next_text (book_text policy es) a) (book-writes es c e)
+        ap (λ (a : After (Result ℕ Refusal) ℕ). next_text (book_text policy es) a) (book-writes es c e)
         ∙ take-append_seam r (drop (length r) c.out)
     next-same es c false e = next-kept (book_text policy es) (book_outcome policy es c).answer (book_outcome policy es c).buffer
         (sym (mends_is policy es c) ∙ e)
 
     pub next-text : (es : List Entry) (c : Call) → Sound es → next_text (book_text policy es) (mend_call (book_text policy es) policy c)
         ≡ book_text policy (book_step policy es c)
-    next-text es c h = ap (λ (a : After MendAnswer ℕ). next_text (book_text policy es) a) (call_same es c h)
+    next-text es c h = ap (λ (a : After (Result ℕ Refusal) ℕ). next_text (book_text policy es) a) (call_same es c h)
         ∙ next-same es c (mends policy es c) refl
 
     marked-items : (es : List Entry) (c : Call) → items_of (marked policy es c) ≡ items_of es
@@ -178,7 +176,7 @@ module _ (policy : List ℕ) where
         c.out (sym (mends_is policy es c) ∙ e)
 
     pub found-open : (es : List Entry) (c : Call) (e : mends policy es c ≡ true) → finding_at c.offset (open_found P 0 es)
-        ≡ some (found_at es c e).item
+        ≡ Some (found_at es c e).item
     found-open es c e = ap (finding_at c.offset) (sym (openings_are P 0 0 0 es (omega arith))) ∙ (found_at es c e).found_it
 
     step_right : (es : List Entry) (c : Call) (b : Bool) → mends policy es c ≡ b → Rights P es → Rights P (cond b (marked policy es c) es)

@@ -1,4 +1,6 @@
 -- The proof of the claim on a formatted text (`FormattedClaim` of specs/Demand3.antt).
+use Rattle.base.specs.declared.Refusal.{Refusal}
+use Rattle.std.specs.Prelude.{Ok, None, Result, Option}
 use mathlib.Core.Path.{◌≡◌, refl, ap, sym, ◌∙◌, subst}
 use mathlib.Core.Bool.{Bool, true, false}
 use mathlib.Core.List.{List, [], map}
@@ -28,8 +30,6 @@ use Rattle.analysis.specs.Findings.{totals}
 use Rattle.formatter.specs.Findings.{finding_row, findings, text_totals}
 use Rattle.formatter.specs.Format.{format, formatted, same_bytes}
 use Rattle.base.specs.Refusals.{After}
-use Rattle.formatter.specs.declared.FormatAnswer.{FormatAnswer}
-use Rattle.formatter.specs.declared.FormatAnswer.TheVariants.{Unchanged}
 use Rattle.formatter.proofs.Books.{balance_book, strip_book}
 use Rattle.formatter.proofs.Formatting.{
   all_chars,
@@ -64,7 +64,7 @@ module _ (policy : List ℕ) where
       ∙ ap encode_all (format-none P 0 (items (chars b)) (sym (first_found policy b) ∙ e) ∙ tiling (chars b)) ∙ whole policy b a
 
   kept-none : (b out : List ℕ) → Accepted policy b → findings b policy ≡ [] → format b policy out
-      ≡ record { answer = Unchanged; buffer = out }
+      ≡ record { answer = Ok None; buffer = out }
   kept-none b out a e =
       let F = formatted b policy in
       format_is policy b out a ∙ ap (λ (q : Bool). format_tests q (leb (length F) (length out)) F out)
@@ -177,8 +177,8 @@ module _ (policy : List ℕ) where
       no_change = (none-same, same_none b a);
       unchanged-said = λ out. (
         (λ e. none-same (same_true F b (says_unchanged (same_bytes F b) (leb (length F) (length out)) F out
-            (ap (λ (x : After FormatAnswer ℕ). x.answer) (sym (format_is policy b out a)) ∙ e)))),
-        (λ z. ap (λ (x : After FormatAnswer ℕ). x.answer) (kept-none b out a z)),
+            (ap (λ (x : After (Result (Option ℕ) Refusal) ℕ). x.answer) (sym (format_is policy b out a)) ∙ e)))),
+        (λ z. ap (λ (x : After (Result (Option ℕ) Refusal) ℕ). x.answer) (kept-none b out a z)),
       );
       unchanged-kept = λ out z. kept-none b out a z;
       changed_written = λ out h i. changed-tests out true h (le-leb (length F) (length out) i);

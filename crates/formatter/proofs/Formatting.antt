@@ -1,7 +1,7 @@
 -- The formatted text is the text of the book with every finding mended by default. A text without a finding is its own formatted text.
+use Rattle.std.specs.Prelude.{Ok, Err, Some, None, Result, Option}
 use mathlib.Core.Path.{◌≡◌, refl, ap, sym, ◌∙◌}
 use mathlib.Core.Bool.{Bool, true, false, cond, ◌&&◌, false≢true}
-use mathlib.Core.Option.{Option}
 use mathlib.Core.List.{List, [], ◌∷◌, ◌++◌}
 use Prim.Native.Nat.{ℕ, ◌+◌}
 use native.Mathlib.Omega.{arith}
@@ -17,8 +17,6 @@ use Rattle.formatter.specs.Book.{Entry, Mark, book_chars, entry_chars, is_open, 
 use Rattle.formatter.specs.Demand3.{Accepted, ByDefault, Each, ValidMark, all_mended, and_each, no_more}
 use Rattle.formatter.specs.Format.{format, format_items, formatted, same_bytes}
 use Rattle.base.specs.Refusals.{After, unwritten, or_else, written}
-use Rattle.formatter.specs.declared.FormatAnswer.{FormatAnswer}
-use Rattle.formatter.specs.declared.FormatAnswer.TheVariants.{Changed, Refused, Unchanged}
 use Rattle.base.specs.declared.Refusal.{Refusal}
 use Rattle.base.specs.declared.Refusal.TheVariants.{OutputTooShort}
 use Rattle.formatter.proofs.Replacements.{default_number}
@@ -47,10 +45,10 @@ same_self (c ∷ s) = ap (λ (b : Bool). b && same_bytes s s) (eq-eqb c c refl) 
 -- ---- the call
 
 -- The outcome of formatting after the intake, by the answers of its two tests.
-abbrev pub format_tests : Bool → Bool → List ℕ → List ℕ → After FormatAnswer ℕ
+abbrev pub format_tests : Bool → Bool → List ℕ → List ℕ → After (Result (Option ℕ) Refusal) ℕ
 format_tests same fits r out =
-    cond same (unwritten Unchanged out)
-    (cond fits (written (Changed (length r)) r out) (unwritten (Refused (OutputTooShort (length r))) out))
+    cond same (unwritten (Ok None) out)
+    (cond fits (written (Ok (Some (length r))) r out) (unwritten (Err (OutputTooShort (length r))) out))
 
 pub format_is : (policy b out : List ℕ) → Accepted policy b
     → format b policy out ≡ format_tests (same_bytes (formatted b policy) b) (leb (length (formatted b policy)) (length out))
@@ -58,10 +56,10 @@ pub format_is : (policy b out : List ℕ) → Accepted policy b
 unfolding format
 format_is policy b out a =
     let r = formatted b policy in
-    ap (λ (o : Option Refusal). or_else o (λ (f : Refusal). unwritten (Refused f) out)
+    ap (λ (o : Option Refusal). or_else o (λ (f : Refusal). unwritten (Err f) out)
     (format_tests (same_bytes r b) (leb (length r) (length out)) r out)) (pass_intake policy b a)
 
-pub says_unchanged : (same fits : Bool) (r out : List ℕ) → (format_tests same fits r out).answer ≡ Unchanged → same ≡ true
+pub says_unchanged : (same fits : Bool) (r out : List ℕ) → (format_tests same fits r out).answer ≡ Ok None → same ≡ true
 says_unchanged true fits r out e = refl
 says_unchanged false true r out e = let z : ◌≡◌ {A = ℕ} 0 1 = cc in absurd (omega arith)
 says_unchanged false false r out e = let z : ◌≡◌ {A = ℕ} 0 1 = cc in absurd (omega arith)

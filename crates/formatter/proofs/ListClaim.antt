@@ -1,4 +1,6 @@
 -- The proof of the claim on a list of mending calls (`ListClaim` of specs/Demand3.antt).
+use Rattle.base.specs.declared.Refusal.{Refusal}
+use Rattle.std.specs.Prelude.{Ok, Result}
 use mathlib.Core.Path.{◌≡◌, ap, sym, ◌∙◌, subst}
 use mathlib.Core.Bool.{Bool, true, false, cond}
 use mathlib.Core.List.{List, [], ◌∷◌, ◌++◌, append-nil, map, Memᴰ}
@@ -41,8 +43,6 @@ use Rattle.formatter.specs.Format.{format_items}
 use Rattle.formatter.specs.List.{row_bytes, row_numbers}
 use Rattle.formatter.specs.Mend.{Call, mend_call, outcomes, text_after}
 use Rattle.base.specs.Refusals.{After}
-use Rattle.analysis.specs.declared.types.MendAnswer.{MendAnswer}
-use Rattle.analysis.specs.declared.types.MendAnswer.TheVariants.{Mended}
 use Rattle.formatter.proofs.Books.{balance_book, strip_book}
 use Rattle.formatter.proofs.Formatting.{default_book}
 use Rattle.formatter.proofs.Judging.{book_outcome}
@@ -141,14 +141,14 @@ module _ (policy : List ℕ) where
               let t : text policy b (before ++ c ∷ []) ≡ book_text policy (marked policy D c) = step-text before c
               ∙ ap (λ (q : Bool). book_text policy (cond q (marked policy D c) D)) m in
               call_is before c ∙ book-writes policy ok D c m
-              ∙ ap (λ (t : List ℕ). record { answer = Mended (length t); buffer = t ++ drop (length t) c.out }) (sym t);
+              ∙ ap (λ (t : List ℕ). record { answer = Ok (length t); buffer = t ++ drop (length t) c.out }) (sym t);
           turned-back = λ before c e i.
               let D = book policy b before in
               let m : mends policy D c ≡ false = sym (accepted-is before c) ∙ i in
               let s : book policy b (before ++ c ∷ []) ≡ D = step-book before c ∙ ap (λ (q : Bool). cond q (marked policy D c) D) m in (
-                subst (λ (x : After MendAnswer ℕ). FirstRefusal policy D c x.answer) (sym (call_is before c))
+                subst (λ (x : After (Result ℕ Refusal) ℕ). FirstRefusal policy D c x.answer) (sym (call_is before c))
                     (refusal_first policy ok D c (sound-is before).base m),
-                ap (λ (x : After MendAnswer ℕ). x.buffer) (call_is before c) ∙ refusal_kept policy ok D c m,
+                ap (λ (x : After (Result ℕ Refusal) ℕ). x.buffer) (call_is before c) ∙ refusal_kept policy ok D c m,
                 s,
                 text_is (before ++ c ∷ []) ∙ ap (book_text policy) s ∙ sym (text_is before),
               );

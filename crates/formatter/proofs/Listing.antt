@@ -1,8 +1,8 @@
 -- Listing a book's text gives the open findings, and each has the same bytes, counts and choices as in the first text.
+use Rattle.std.specs.Prelude.{Ok, Err, Result, Option}
 use mathlib.Core.Path.{◌≡◌, refl, ap, sym, ◌∙◌, subst}
 use mathlib.Core.Logic.{◌⊎◌, inl, inr}
 use mathlib.Core.Bool.{Bool, true, false, cond, ◌&&◌}
-use mathlib.Core.Option.{Option}
 use mathlib.Core.List.Memᴰ
 use mathlib.Core.List.{
   List,
@@ -52,8 +52,6 @@ use Rattle.formatter.specs.Findings.{finding_row, findings, row_in}
 use Rattle.formatter.specs.List.{list, list_bytes, row_bytes, row_numbers}
 use Rattle.base.specs.Refusals.{After, unwritten, or_else, written}
 use Rattle.analysis.specs.declared.types.Finding.{Finding}
-use Rattle.base.specs.declared.ListAnswer.{ListAnswer}
-use Rattle.base.specs.declared.ListAnswer.TheVariants.{Listed, Refused}
 use Rattle.base.specs.declared.Refusal.{Refusal}
 use Rattle.base.specs.declared.Refusal.TheVariants.{TableTooShort}
 use Rattle.formatter.proofs.Mending.{open_found}
@@ -64,30 +62,30 @@ use Rattle.formatter.proofs.Splicing.{openings_are}
 -- ---- rows
 
 -- The outcome of listing after the intake, by the rows and the table.
-abbrev pub list_rows : List Finding → List Finding → After ListAnswer Finding
+abbrev pub list_rows : List Finding → List Finding → After (Result ℕ Refusal) Finding
 list_rows rows table =
-    cond (leb (length rows) (length table)) (written (Listed (length rows)) rows table)
-    (unwritten (Refused (TableTooShort (length rows))) table)
+    cond (leb (length rows) (length table)) (written (Ok (length rows)) rows table)
+    (unwritten (Err (TableTooShort (length rows))) table)
 
 pub room-rows : (rows table : List Finding) (n : ℕ) → length rows ≡ n → n ≤ length table → list_rows rows table
-    ≡ record { answer = Listed n; buffer = rows ++ drop n table }
+    ≡ record { answer = Ok n; buffer = rows ++ drop n table }
 room-rows rows table n e h =
-    ap (λ (b : Bool). cond b (written (Listed (length rows)) rows table) (unwritten (Refused (TableTooShort (length rows))) table))
+    ap (λ (b : Bool). cond b (written (Ok (length rows)) rows table) (unwritten (Err (TableTooShort (length rows))) table))
     (le-leb (length rows) (length table) (omega arith))
-    ∙ ap (λ (n : ℕ). record { answer = Listed n; buffer = rows ++ drop n table }) e
+    ∙ ap (λ (n : ℕ). record { answer = Ok n; buffer = rows ++ drop n table }) e
 
 pub short-rows : (rows table : List Finding) (n : ℕ) → length rows ≡ n → length table < n → list_rows rows table
-    ≡ record { answer = Refused (TableTooShort n); buffer = table }
+    ≡ record { answer = Err (TableTooShort n); buffer = table }
 short-rows rows table n e h =
-    ap (λ (b : Bool). cond b (written (Listed (length rows)) rows table) (unwritten (Refused (TableTooShort (length rows))) table))
+    ap (λ (b : Bool). cond b (written (Ok (length rows)) rows table) (unwritten (Err (TableTooShort (length rows))) table))
     (lt-leb (length rows) (length table) (omega arith))
-    ∙ ap (λ (n : ℕ). record { answer = Refused (TableTooShort n); buffer = table }) e
+    ∙ ap (λ (n : ℕ). record { answer = Err (TableTooShort n); buffer = table }) e
 
 pub list_is : (policy b : List ℕ) (table : List Finding) → Accepted policy b → list b policy table
     ≡ list_rows (map (finding_row (policy_of policy) b) (findings b policy)) table
 unfolding list
 list_is policy b table a =
-    ap (λ (o : Option Refusal). or_else o (λ (r : Refusal). unwritten (Refused r) table)
+    ap (λ (o : Option Refusal). or_else o (λ (r : Refusal). unwritten (Err r) table)
     (list_rows (map (finding_row (policy_of policy) b) (findings b policy)) table)) (pass_intake policy b a)
 
 pub list_bytes_is : (policy b table : List ℕ) → Accepted policy b → list_bytes b policy table

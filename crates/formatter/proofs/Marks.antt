@@ -1,8 +1,8 @@
 -- What an accepted call does to the book: one finding fewer is open, the totals of open and mended findings together stay, and the mended
 -- item is a finding with valid decisions.
+use Rattle.std.specs.Prelude.{Some}
 use mathlib.Core.Path.{◌≡◌, refl, ap, sym, ◌∙◌}
 use mathlib.Core.Bool.{Bool, true, false, cond, ◌&&◌, false≢true}
-use mathlib.Core.Option.{some}
 use mathlib.Core.List.{List, [], ◌∷◌, map}
 use Prim.Native.Nat.{ℕ, suc, ◌+◌}
 use native.Mathlib.Omega.{arith}
@@ -77,7 +77,7 @@ module _ (p : Policy) where
       go (mended ds) false f r i = absurd (false≢true (sym f ∙ r.is-finding))
 
   -- After an accepted call, one finding fewer is open.
-  pub opens_mark : (n o : ℕ) (ds : List Presentation) (es : List Entry) (x : Item) → finding_at o (open_found p n es) ≡ some x → opens es
+  pub opens_mark : (n o : ℕ) (ds : List Presentation) (es : List Entry) (x : Item) → finding_at o (open_found p n es) ≡ Some x → opens es
       ≡ suc (opens (mark_at p n o ds es))
   unfolding open_found mark_at finding_at
   opens_mark n o ds [] x h = let z : ◌≡◌ {A = ℕ} 0 1 = cc in absurd (omega arith)
@@ -100,18 +100,18 @@ module _ (p : Policy) where
           ∙ ap (λ (f : Bool). cond (is_open m && f) (suc (opens M)) (opens M)) g
 
       go : (m : Mark) (f q : Bool) → e.mark ≡ m → is_finding p e.item ≡ f → eqb n o ≡ q
-          → (finding_at o O ≡ some x → opens es ≡ suc (opens M))
-          → finding_at o (cond (is_open m && f) (record { start = n; item = e.item } ∷ O) O) ≡ some x
+          → (finding_at o O ≡ Some x → opens es ≡ suc (opens M))
+          → finding_at o (cond (is_open m && f) (record { start = n; item = e.item } ∷ O) O) ≡ Some x
           → cond (is_open m && f) (suc (opens es)) (opens es)
           ≡ suc (opens (cond (is_open m && f && q) (record { item = e.item; mark = mended ds } ∷ es) (e ∷ M)))
       go untouched true true k f j ih h = refl
       go untouched true false k f j ih h =
-          ap suc (ih (sym (ap (λ (b : Bool). cond b (some e.item) (finding_at o O)) j) ∙ h)) ∙ ap suc (sym (unwritten untouched true k f))
+          ap suc (ih (sym (ap (λ (b : Bool). cond b (Some e.item) (finding_at o O)) j) ∙ h)) ∙ ap suc (sym (unwritten untouched true k f))
       go untouched false q k f j ih h = ih h ∙ ap suc (sym (unwritten untouched false k f))
       go (mended d) f q k g j ih h = ih h ∙ ap suc (sym (unwritten (mended d) f k g))
 
   -- An accepted call keeps the property that only findings are mended, each under as many decisions as it wants.
-  pub right_mark : (n o : ℕ) (ds : List Presentation) {es : List Entry} (x : Item) → finding_at o (open_found p n es) ≡ some x → length ds
+  pub right_mark : (n o : ℕ) (ds : List Presentation) {es : List Entry} (x : Item) → finding_at o (open_found p n es) ≡ Some x → length ds
       ≡ wanted p x
       → Rights p es → Rights p (mark_at p n o ds es)
   unfolding open_found mark_at finding_at
@@ -129,14 +129,14 @@ module _ (p : Policy) where
       M : List Entry
       M = mark_at p N o ds es
 
-      go : (m : Mark) (f q : Bool) → is_finding p e.item ≡ f → eqb n o ≡ q → (finding_at o O ≡ some x → Rights p M)
-          → finding_at o (cond (is_open m && f) (record { start = n; item = e.item } ∷ O) O) ≡ some x
+      go : (m : Mark) (f q : Bool) → is_finding p e.item ≡ f → eqb n o ≡ q → (finding_at o O ≡ Some x → Rights p M)
+          → finding_at o (cond (is_open m && f) (record { start = n; item = e.item } ∷ O) O) ≡ Some x
           → Rights p (cond (is_open m && f && q) (record { item = e.item; mark = mended ds } ∷ es) (e ∷ M))
       go untouched true true f j ih h =
-          let s : some e.item ≡ some x = sym (ap (λ (b : Bool). cond b (some e.item) (finding_at o O)) j) ∙ h in
+          let s : Some e.item ≡ Some x = sym (ap (λ (b : Bool). cond b (Some e.item) (finding_at o O)) j) ∙ h in
           let y : e.item ≡ x = cc in
           let z : ValidMending p e.item ds = record { is-finding = f; as_many = l ∙ ap (λ (x : Item). wanted p x) (sym y) } in
           and_each {x = record { item = e.item; mark = mended ds }} z rs
-      go untouched true false f j ih h = and_each {x = e} r (ih (sym (ap (λ (b : Bool). cond b (some e.item) (finding_at o O)) j) ∙ h))
+      go untouched true false f j ih h = and_each {x = e} r (ih (sym (ap (λ (b : Bool). cond b (Some e.item) (finding_at o O)) j) ∙ h))
       go untouched false q f j ih h = and_each {x = e} r (ih h)
       go (mended d) f q g j ih h = and_each {x = e} r (ih h)

@@ -1,8 +1,8 @@
 -- The order of calls does not matter, since the mendings determine the book's text. No two open findings have the same place.
+use Rattle.std.specs.Prelude.{Some}
 use mathlib.Core.Path.{◌≡◌, refl, ap, sym, ◌∙◌, subst}
 use mathlib.Core.Logic.{◌⊎◌, inl, inr}
 use mathlib.Core.Bool.{Bool, true, false, cond, ◌&&◌}
-use mathlib.Core.Option.{some}
 use mathlib.Core.List.Memᴰ
 use mathlib.Core.List.{List, [], ◌∷◌, ◌++◌, Memᴰ}
 use Prim.Native.Nat.{ℕ, ◌+◌, ◌≤◌, ◌<◌}
@@ -69,9 +69,9 @@ module _ (p : Policy) where
       unwritten : (m : Mark) → e.mark ≡ m → mended_from n (e ∷ M) ≡ only_mended m say (mended_from N M)
       unwritten m q = ap (λ (m : Mark). only_mended m say (mended_from N M)) q
 
-      found_here : (b : Bool) → eqb (placed n t k) o ≡ b → mending_of ds (cond b (some here) (open_finding_at o O)) ++ mended_from N es
+      found_here : (b : Bool) → eqb (placed n t k) o ≡ b → mending_of ds (cond b (Some here) (open_finding_at o O)) ++ mended_from N es
           ≡ mending_of ds (open_finding_at o (here ∷ O)) ++ mended_from N es
-      found_here b j = ap (λ (b : Bool). mending_of ds (cond b (some here) (open_finding_at o O)) ++ mended_from N es) (sym j)
+      found_here b j = ap (λ (b : Bool). mending_of ds (cond b (Some here) (open_finding_at o O)) ++ mended_from N es) (sym j)
 
       go : (m : Mark) → e.mark ≡ m → (f q : Bool) → eqb (placed n t k) o ≡ q
           → Alike (mended_from N M) (mending_of ds (open_finding_at o O) ++ mended_from N es)
@@ -134,7 +134,7 @@ module _ (p : Policy) where
 
   -- No other open finding has the same place, so that a search by the place finds it.
   pub opening-place : (n t k : ℕ) (es : List Entry) (x : OpenFinding) → k ≤ n + t → Filled (items_of es)
-      → Memᴰ x (open_findings_from p n t k es) → open_finding_at (place x) (open_findings_from p n t k es) ≡ some x
+      → Memᴰ x (open_findings_from p n t k es) → open_finding_at (place x) (open_findings_from p n t k es) ≡ Some x
   unfolding open_findings_from open_finding_at
   opening-place n t k [] x l fl h = absurd (Memᴰ.not-nil h)
   opening-place n t k (e ∷ es) x l (and_item c s q fl) h = go e.mark (is_finding p e.item) (λ a b c i. opening-place a b c es x i fl) h
@@ -150,23 +150,23 @@ module _ (p : Policy) where
 
       Ih : Type 0
       Ih = (n t k : ℕ) → k ≤ n + t → Memᴰ x (open_findings_from p n t k es) → open_finding_at (place x) (open_findings_from p n t k es)
-          ≡ some x
+          ≡ Some x
 
       past : Ih → (x ≡ here) ⊎ Memᴰ x (O untouched)
-          → cond (eqb (placed n t k) (place x)) (some here) (open_finding_at (place x) (O untouched)) ≡ some x
+          → cond (eqb (placed n t k) (place x)) (Some here) (open_finding_at (place x) (O untouched)) ≡ Some x
       past ih (inl j) =
-          ap (λ (b : Bool). cond b (some here) (open_finding_at (place x) (O untouched)))
+          ap (λ (b : Bool). cond b (Some here) (open_finding_at (place x) (O untouched)))
           (eq-eqb (placed n t k) (place x) (sym (ap place j)))
-          ∙ ap some (sym j)
+          ∙ ap Some (sym j)
       past ih (inr h) =
           let i = from_place (n + S) (t + 0) (k + 0) es x (omega arith) h in
           let z : placed n t k < place x = omega (arith, ap (size width) q, width_some c) in
-          ap (λ (b : Bool). cond b (some here) (open_finding_at (place x) (O untouched)))
+          ap (λ (b : Bool). cond b (Some here) (open_finding_at (place x) (O untouched)))
           (ne_eqb (placed n t k) (place x) (λ y. omega (arith, y, z)))
           ∙ ih (n + S) (t + 0) (k + 0) (omega arith) h
 
       go : (m : Mark) (f : Bool) → Ih → Memᴰ x (cond (is_open m && f) (here ∷ O m) (O m))
-          → open_finding_at (place x) (cond (is_open m && f) (here ∷ O m) (O m)) ≡ some x
+          → open_finding_at (place x) (cond (is_open m && f) (here ∷ O m) (O m)) ≡ Some x
       go untouched true ih h = past ih (Memᴰ.cases_cons h)
       go untouched false ih h = ih (n + S) (t + 0) (k + 0) (omega arith) h
       go (mended d) f ih h = ih (n + S) (t + size width (replacement p e.item d)) (k + S) (omega arith) h
@@ -274,12 +274,12 @@ pub record Hit (o : ℕ) (os : List OpenFinding) (x : OpenFinding) : Type 0 wher
   pub among : Memᴰ x os
   pub there : place x ≡ o
 
-pub opening_hit : (o : ℕ) (os : List OpenFinding) (x : OpenFinding) → open_finding_at o os ≡ some x → Hit o os x
+pub opening_hit : (o : ℕ) (os : List OpenFinding) (x : OpenFinding) → open_finding_at o os ≡ Some x → Hit o os x
 unfolding open_finding_at
 opening_hit o [] x h = let z : ◌≡◌ {A = ℕ} 0 1 = cc in absurd (omega arith)
 opening_hit o (y ∷ os) x h = go (eqb (place y) o) refl h (opening_hit o os x)
   where
-    go : (b : Bool) → eqb (place y) o ≡ b → cond b (some y) (open_finding_at o os) ≡ some x → (open_finding_at o os ≡ some x → Hit o os x)
+    go : (b : Bool) → eqb (place y) o ≡ b → cond b (Some y) (open_finding_at o os) ≡ Some x → (open_finding_at o os ≡ Some x → Hit o os x)
         → Hit o (y ∷ os) x
     go true j h ih =
         let s : y ≡ x = cc in

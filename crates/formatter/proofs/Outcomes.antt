@@ -1,7 +1,7 @@
 -- The order of the tests of a text and a policy, and the filed text.
+use Rattle.std.specs.Prelude.{Ok, Err, Some, None, Result, Option}
 use mathlib.Core.Path.{◌≡◌, refl, ap, sym, ◌∙◌}
 use mathlib.Core.Bool.{Bool, true, false, cond}
-use mathlib.Core.Option.{Option, some}
 use mathlib.Core.List.{List, ◌++◌, map}
 use Prim.Native.Nat.{ℕ, ◌≤◌}
 use native.Mathlib.Omega.{arith}
@@ -24,10 +24,6 @@ use Rattle.formatter.specs.Mend.{exchanged, mend}
 use Rattle.base.specs.Refusals.{After, unwritten, or_else, text_limit}
 use Rattle.formatter.specs.Intake.{intake_refusal}
 use Rattle.formatter.specs.Theorems.{FiledIsFormatted, IntakeComesFirst, IntakeInOrder}
-use Rattle.formatter.specs.declared.FormatAnswer.{FormatAnswer}
-use Rattle.formatter.specs.declared.FormatAnswer.TheVariants as Format
-use Rattle.base.specs.declared.ListAnswer.TheVariants as Listing
-use Rattle.analysis.specs.declared.types.MendAnswer.TheVariants as Mend
 use Rattle.base.specs.declared.Refusal.{Refusal}
 use Rattle.base.specs.declared.Refusal.TheVariants.{NotWellFormed}
 use Rattle.formatter.proofs.Calls.{pass_intake}
@@ -51,15 +47,15 @@ unfolding IntakeComesFirst format list list_bytes mend
 comes_first text policy r e =
     let F = formatted text policy in
     let p = policy_of policy in (
-      (λ out. ap (λ (o : Option Refusal). or_else o (λ (f : Refusal). unwritten (Format.Refused f) out)
+      (λ out. ap (λ (o : Option Refusal). or_else o (λ (f : Refusal). unwritten (Err f) out)
           (format_tests (same_bytes F text) (leb (length F) (length out)) F out)) e),
-      (λ table. ap (λ (o : Option Refusal). or_else o (λ (f : Refusal). unwritten (Listing.Refused f) table)
+      (λ table. ap (λ (o : Option Refusal). or_else o (λ (f : Refusal). unwritten (Err f) table)
           (list_rows (map (finding_row p text) (findings text policy)) table)) e),
-      (λ table. ap (λ (o : Option Refusal). or_else o (λ (f : Refusal). unwritten (Listing.Refused f) table)
+      (λ table. ap (λ (o : Option Refusal). or_else o (λ (f : Refusal). unwritten (Err f) table)
           (fill_table row_numbers row_bytes (map (finding_row p text) (findings text policy)) table)) e),
       (λ offset ds out.
           let x = finding_at offset (findings text policy) in
-          ap (λ (o : Option Refusal). or_else o (λ (f : Refusal). unwritten (Mend.Refused f) out)
+          ap (λ (o : Option Refusal). or_else o (λ (f : Refusal). unwritten (Err f) out)
           (judge p x ds (exchanged text p offset (map meaning ds) x) out)) e),
     )
 
@@ -69,14 +65,14 @@ module _ (text policy : List ℕ) (short : length text ≤ text_limit) (fit : is
   pub all_well_formed : n ≡ length text → Accepted policy text
   all_well_formed l = record { short = short; is_policy_lem = fit; well_formed = whole_well_formed text (sym e ∙ l) }
 
-  pub not_well_formed : (n ≡ length text → ⊥) → intake_refusal text policy ≡ some (NotWellFormed n)
+  pub not_well_formed : (n ≡ length text → ⊥) → intake_refusal text policy ≡ Some (NotWellFormed n)
   not_well_formed l = intake_is text policy (le-leb (length text) text_limit short) fit (ne_eqb _ _ (λ f. l (e ∙ f)))
-      ∙ ap (λ (k : ℕ). some (NotWellFormed k)) (sym e)
+      ∙ ap (λ (k : ℕ). Some (NotWellFormed k)) (sym e)
 
 -- The filed text, by the answers of formatting's tests.
 filed_tests : (same fits : Bool) (text r out : List ℕ) (len : ℕ) → (same ≡ true → r ≡ text)
-    → ((format_tests same fits r out).answer ≡ Format.Changed len → filed_text text (format_tests same fits r out).buffer true len ≡ r)
-    × ((format_tests same fits r out).answer ≡ Format.Unchanged → filed_text text (format_tests same fits r out).buffer false len ≡ r)
+    → ((format_tests same fits r out).answer ≡ Ok (Some len) → filed_text text (format_tests same fits r out).buffer true len ≡ r)
+    × ((format_tests same fits r out).answer ≡ Ok None → filed_text text (format_tests same fits r out).buffer false len ≡ r)
 unfolding filed_text
 filed_tests true fits text r out len s = ((λ e. cc), (λ e. sym (s refl)))
 filed_tests false true text r out len s = (
@@ -97,8 +93,8 @@ filed text policy out len a =
     let F = formatted text policy in
     let q = format_is policy text out a in
     let t = filed_tests (same_bytes F text) (leb (length F) (length out)) text F out len (same_true F text) in (
-      (λ e. ap (λ (x : After FormatAnswer ℕ). filed_text text x.buffer true len) q
-          ∙ t.0 (ap (λ (x : After FormatAnswer ℕ). x.answer) (sym q) ∙ e)),
-      (λ e. ap (λ (x : After FormatAnswer ℕ). filed_text text x.buffer false len) q
-          ∙ t.1 (ap (λ (x : After FormatAnswer ℕ). x.answer) (sym q) ∙ e)),
+      (λ e. ap (λ (x : After (Result (Option ℕ) Refusal) ℕ). filed_text text x.buffer true len) q
+          ∙ t.0 (ap (λ (x : After (Result (Option ℕ) Refusal) ℕ). x.answer) (sym q) ∙ e)),
+      (λ e. ap (λ (x : After (Result (Option ℕ) Refusal) ℕ). filed_text text x.buffer false len) q
+          ∙ t.1 (ap (λ (x : After (Result (Option ℕ) Refusal) ℕ). x.answer) (sym q) ∙ e)),
     )

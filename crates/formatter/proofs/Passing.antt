@@ -1,8 +1,8 @@
 -- The intake by the answers of its tests, what its answer says of a text, and the policy that is read.
+use Rattle.std.specs.Prelude.{Ok, Err, Result, Option, ⊤, Some, None}
 use mathlib.Core.Path.{◌≡◌, refl, ap, ap₂, sym, ◌∙◌}
 use mathlib.Core.Bool.{Bool, true, false, cond, not}
 use mathlib.Core.List.{List}
-use mathlib.Core.Option.{Option, none, some}
 use Prim.Native.Nat.{ℕ, ◌-◌, ◌<◌, ◌≤◌}
 use native.Mathlib.Omega.{arith}
 use lib.Dec.{eqb, leb}
@@ -11,8 +11,6 @@ use lib.Seq.{take_all}
 use borrow.Author.Tests.{eqb-true, le-leb, leb-true, lt-leb}
 use Rattle.base.specs.Answers.{Answers, check_row}
 use Rattle.base.specs.Refusals.{checked, or_else, text_limit}
-use Rattle.base.specs.declared.Check.{Check}
-use Rattle.base.specs.declared.Check.TheVariants.{Passed, Refused}
 use Rattle.base.specs.declared.Refusal.{Refusal}
 use Rattle.base.specs.declared.Refusal.TheVariants.{NotWellFormed, TextTooLong}
 use Rattle.utf8.specs.Rfc3629.{valid_up_to_of}
@@ -28,11 +26,11 @@ use Rattle.formatter.specs.Intake.{first_tests, intake_refusal}
 
 -- The refusal of the first two tests, by their answers and the refusal of the policy.
 abbrev pub by_first : Bool → Bool → Refusal → Option Refusal
-by_first short fit fault = cond (not short) (some TextTooLong) (cond fit none (some fault))
+by_first short fit fault = cond (not short) (Some TextTooLong) (cond fit None (Some fault))
 
 -- The refusal of the intake, by that of the first two tests and the answer of the third.
 abbrev pub by_third : Option Refusal → Bool → List ℕ → Option Refusal
-by_third first formed text = or_else first some (cond (not formed) (some (NotWellFormed (valid_up_to_of text))) none)
+by_third first formed text = or_else first Some (cond (not formed) (Some (NotWellFormed (valid_up_to_of text))) None)
 
 abbrev pub by_tests_lem : Bool → Bool → Bool → Refusal → List ℕ → Option Refusal
 by_tests_lem short fit formed fault text = by_third (by_first short fit fault) formed text
@@ -53,47 +51,47 @@ pub with_policy : (a f : Bool) (fault : Refusal) (text : List ℕ) → by_tests_
 with_policy true f fault text = refl
 with_policy false f fault text = refl
 
-pub too_long : (text policy : List ℕ) → text_limit < length text → intake_refusal text policy ≡ some TextTooLong
+pub too_long : (text policy : List ℕ) → text_limit < length text → intake_refusal text policy ≡ Some TextTooLong
 too_long text policy h = intake_is text policy (lt-leb (length text) text_limit h) refl refl
 
 pub no_policy : (text policy : List ℕ) → length text ≤ text_limit → is_policy policy ≡ false
-    → intake_refusal text policy ≡ some (policy_fault policy)
+    → intake_refusal text policy ≡ Some (policy_fault policy)
 no_policy text policy h p = intake_is text policy (le-leb (length text) text_limit h) p refl
 
 -- If the text is within the limit, a refusal of the policy is the refusal of the intake.
-pub policy-first : (text policy : List ℕ) (r : Refusal) → length text ≤ text_limit → policy_refusal policy ≡ some r
-    → intake_refusal text policy ≡ some r
+pub policy-first : (text policy : List ℕ) (r : Refusal) → length text ≤ text_limit → policy_refusal policy ≡ Some r
+    → intake_refusal text policy ≡ Some r
 policy-first text policy r h e =
     let p = refused-policy policy r e in
     no_policy text policy h p ∙ sym (policy-refused policy p) ∙ e
 
 -- ---- the answer
 
-pub checked_refused : (o : Option Refusal) (r : Refusal) → checked o ≡ Refused r → o ≡ some r
-checked_refused none r e = cc
-checked_refused (some s) r e = let z : s ≡ r = cc in ap some z
+pub checked_refused : (o : Option Refusal) (r : Refusal) → checked o ≡ Err r → o ≡ Some r
+checked_refused None r e = cc
+checked_refused (Some s) r e = let z : s ≡ r = cc in ap Some z
 
-pub checked-passed : (o : Option Refusal) → checked o ≡ Passed → o ≡ none
-checked-passed none e = refl
-checked-passed (some r) e = cc
+pub checked-passed : (o : Option Refusal) → checked o ≡ Ok tt → o ≡ None
+checked-passed None e = refl
+checked-passed (Some r) e = cc
 
-some-none : (r : Refusal) → ◌≡◌ {A = Option Refusal} (some r) none → ⊥
+some-none : (r : Refusal) → ◌≡◌ {A = Option Refusal} (Some r) None → ⊥
 some-none r e = let z : ◌≡◌ {A = ℕ} 0 1 = cc in omega arith
 
 -- ---- the first two tests
 
 -- What `first_tests` answers of a text and a policy: a refusal of the intake, or that both tests pass.
-module _ (text policy : List ℕ) {r : Check} (e : Answers check_row (checked (first_tests text policy)) r) where
-  pub first-refused : (f : Refusal) → r ≡ Refused f → intake_refusal text policy ≡ some f
+module _ (text policy : List ℕ) {r : Result ⊤ Refusal} (e : Answers check_row (checked (first_tests text policy)) r) where
+  pub first-refused : (f : Refusal) → r ≡ Err f → intake_refusal text policy ≡ Some f
   unfolding intake_refusal
   first-refused f g =
       ap (λ (o : Option Refusal). by_third o (eqb (valid_up_to_of text) (length text)) text)
       (checked_refused (first_tests text policy) f (sym e.same ∙ g))
 
-  none_first : r ≡ Passed → first_tests text policy ≡ none
+  none_first : r ≡ Ok tt → first_tests text policy ≡ None
   none_first g = checked-passed (first_tests text policy) (sym e.same ∙ g)
 
-  pub first-passed : r ≡ Passed → (length text ≤ text_limit) × (is_policy policy ≡ true)
+  pub first-passed : r ≡ Ok tt → (length text ≤ text_limit) × (is_policy policy ≡ true)
   first-passed g = go (leb (length text) text_limit) (is_policy policy) refl refl
     where
       go : (a b : Bool) → leb (length text) text_limit ≡ a → is_policy policy ≡ b → (length text ≤ text_limit) × (is_policy policy ≡ true)
@@ -111,7 +109,7 @@ rest_valid text at e = e ∙ ap valid_up_to_of (take_all (length text - at) (dro
 -- ---- an accepted text
 
 -- A text that passes the intake is accepted.
-pub passed-accepted : (text policy : List ℕ) → intake_refusal text policy ≡ none → Accepted policy text
+pub passed-accepted : (text policy : List ℕ) → intake_refusal text policy ≡ None → Accepted policy text
 passed-accepted text policy e = go (leb (length text) text_limit) (is_policy policy) (eqb (valid_up_to_of text) (length text)) refl refl
     refl
   where

@@ -1,7 +1,7 @@
 -- The places of open findings as offsets in the book's text, and the bytes that a call exchanges there.
+use Rattle.std.specs.Prelude.{Some}
 use mathlib.Core.Path.{◌≡◌, refl, ap, sym, ◌∙◌, subst}
 use mathlib.Core.Bool.{Bool, true, false, cond, ◌&&◌}
-use mathlib.Core.Option.{some}
 use mathlib.Core.List.{List, [], ◌∷◌, ◌++◌, append_assoc, map}
 use Prim.Native.Nat.{ℕ, ◌+◌, ◌≤◌}
 use native.Mathlib.Omega.{arith}
@@ -109,7 +109,7 @@ module _ (p : Policy) where
     );
   }
 
-  pub spliced : (n o : ℕ) (ds : List Presentation) (es : List Entry) (x : Item) → finding_at o (open_found p n es) ≡ some x
+  pub spliced : (n o : ℕ) (ds : List Presentation) (es : List Entry) (x : Item) → finding_at o (open_found p n es) ≡ Some x
       → Spliced (encode_all (book_chars p es)) n o ds x (encode_all (book_chars p (mark_at n o ds es)))
   unfolding open_found mark_at book_chars finding_at
   spliced n o ds [] x e = let z : ◌≡◌ {A = ℕ} 0 1 = cc in absurd (omega arith)
@@ -122,10 +122,10 @@ module _ (p : Policy) where
       tail m = open_found p (after m) es
 
       Ih : Type 0
-      Ih = (k : ℕ) → finding_at o (open_found p k es) ≡ some x
+      Ih = (k : ℕ) → finding_at o (open_found p k es) ≡ Some x
           → Spliced (encode_all (book_chars p es)) k o ds x (encode_all (book_chars p (mark_at k o ds es)))
 
-      later : (m : Mark) → Ih → finding_at o (tail m) ≡ some x
+      later : (m : Mark) → Ih → finding_at o (tail m) ≡ Some x
           → Spliced (encode_all (entry_chars p m e.item ++ book_chars p es)) n o ds x
           (encode_all (entry_chars p m e.item ++ book_chars p (mark_at (after m) o ds es)))
       later m ih h = splice-later (entry_chars p m e.item) (book_chars p es) (book_chars p (mark_at (after m) o ds es)) n o ds x
@@ -139,12 +139,12 @@ module _ (p : Policy) where
           (encode_all (entry_chars p k e.item ++ book_chars p (mark_at (after m) o ds es)))) (sym q) s
 
       go : (m : Mark) → e.mark ≡ m → (f q : Bool) → eqb n o ≡ q → Ih
-          → finding_at o (cond (is_open m && f) (record { start = n; item = e.item } ∷ tail m) (tail m)) ≡ some x
+          → finding_at o (cond (is_open m && f) (record { start = n; item = e.item } ∷ tail m) (tail m)) ≡ Some x
           → Spliced (encode_all (entry_chars p m e.item ++ book_chars p es)) n o ds x
           (encode_all (book_chars p (cond (is_open m && f && q) (record { item = e.item; mark = mended ds } ∷ es)
           (e ∷ mark_at (after m) o ds es))))
       go untouched w true true j ih h =
-          let s : some e.item ≡ some x = sym (ap (λ (b : Bool). cond b (some e.item) (finding_at o (tail untouched))) j) ∙ h in
+          let s : Some e.item ≡ Some x = sym (ap (λ (b : Bool). cond b (Some e.item) (finding_at o (tail untouched))) j) ∙ h in
           let y : e.item ≡ x = cc in
           let k : n ≡ o = eqb-true n o j in
           subst (λ (x : Item). Spliced (encode_all (e.item.chars ++ book_chars p es)) n o ds x
@@ -152,7 +152,7 @@ module _ (p : Policy) where
           (subst (λ (o : ℕ). Spliced (encode_all (e.item.chars ++ book_chars p es)) n o ds e.item
           (encode_all (replacement p e.item ds ++ book_chars p es))) k (splice-here (book_chars p es) n ds e.item))
       go untouched w true false j ih h = unmarked untouched w
-          (later untouched ih (sym (ap (λ (b : Bool). cond b (some e.item) (finding_at o (tail untouched))) j) ∙ h))
+          (later untouched ih (sym (ap (λ (b : Bool). cond b (Some e.item) (finding_at o (tail untouched))) j) ∙ h))
       go untouched w false q j ih h = unmarked untouched w (later untouched ih h)
       go (mended d) w f q j ih h = unmarked (mended d) w (later (mended d) ih h)
 

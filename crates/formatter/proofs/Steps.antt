@@ -1,4 +1,6 @@
 -- A walk over the items of a text: what the answer of the analysis or of the cursor at an offset says of the findings and items from there.
+use Rattle.scanner.specs.declared.ScanItem.{ScanItem}
+use Rattle.std.specs.Prelude.{Some, None, Option}
 use mathlib.Core.Path.{◌≡◌, refl, ap, ap₂, sym, ◌∙◌, subst}
 use mathlib.Core.Bool.{Bool, true, false, cond}
 use mathlib.Core.List.{List, [], ◌∷◌, map}
@@ -10,8 +12,6 @@ use Rattle.positions.specs.Positions.{AtPosition}
 use Rattle.positions.specs.declared.TextCount.{TextCount}
 use Rattle.scanner.specs.Items.{Item, items, join}
 use Rattle.scanner.specs.Spans.{Found, count_after, end_count, first_of, found, scan_at, scan_from, size, span_of, spans, width}
-use Rattle.scanner.specs.declared.ScanStep.{ScanStep}
-use Rattle.scanner.specs.declared.ScanStep.TheVariants as Step
 use Rattle.analysis.specs.Analysis.{is_finding, non_canonicality}
 use Rattle.analysis.specs.ItemAt.{analysis_at, analysis_of, canonical_of, finding_of}
 use Rattle.analysis.specs.declared.ItemAnalysis.{ItemAnalysis}
@@ -118,9 +118,9 @@ none_found p text start e = ap (λ (t : List ℕ). found (is_finding p) width st
 
 module _ (text : List ℕ) (at : ℕ) (before : TextCount) where
   -- What an answer of the cursor says of the items from the offset on.
-  abbrev pub Goes : ScanStep → Type 0
-  Goes Step.End = scan_from text at before ≡ []
-  Goes (Step.Item x) = Ahead text at x.end × (scan_from text at before ≡ x ∷ scan_from text x.end (end_count x))
+  abbrev pub Goes : Option ScanItem → Type 0
+  Goes None = scan_from text at before ≡ []
+  Goes (Some x) = Ahead text at x.end × (scan_from text at before ≡ x ∷ scan_from text x.end (end_count x))
 
   goes_of : (xs : List Item) → items (chars (drop at text)) ≡ xs → Goes (first_of (spans at before xs))
   unfolding scan_from spans first_of
@@ -132,6 +132,6 @@ module _ (text : List ℕ) (at : ℕ) (before : TextCount) where
             ∙ ap (λ (l : List Item). span_of at before x ∷ spans (at + size width x.chars) (count_after before x) l) (sym h.after),
       )
 
-  pub cursor_goes : {s : ScanStep} → s ≡ scan_at text at before → Goes s
+  pub cursor_goes : {s : Option ScanItem} → s ≡ scan_at text at before → Goes s
   unfolding scan_at scan_from
   cursor_goes e = subst Goes (sym e) (goes_of (items (chars (drop at text))) refl)

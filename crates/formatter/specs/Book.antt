@@ -1,6 +1,5 @@
 -- The book of a list of mending calls, and what a call does to it (document 01, "Mending in sequence"; "book" is document 01's term).
-use Rattle.std.specs.Prelude.{Bool, true, false, cond, ◌&&◌, List, [], ◌∷◌, ◌++◌, map, ℕ, ◌+◌, ◌-◌, eqb, leb, length}
-use Rattle.std.proofs.Math.Option.{Option, none, some}
+use Rattle.std.specs.Prelude.{Bool, true, false, cond, ◌&&◌, List, [], ◌∷◌, ◌++◌, map, ℕ, ◌+◌, ◌-◌, eqb, leb, length, Some, None, Option}
 use Rattle.utf8.specs.Rfc3629.{chars, encode_all}
 use Rattle.emoji.specs.declared.presentation.Presentation.{Presentation}
 use Rattle.policy.specs.declared.Policy.{Policy}
@@ -79,8 +78,8 @@ if_mended (mended ds) n = n
 
 -- The open finding whose place is the offset, if there is one.
 unfoldable pub open_finding_at : ℕ → List OpenFinding → Option OpenFinding
-open_finding_at offset [] = none
-open_finding_at offset (o ∷ os) = cond (eqb (place o) offset) (some o) (open_finding_at offset os)
+open_finding_at offset [] = None
+open_finding_at offset (o ∷ os) = cond (eqb (place o) offset) (Some o) (open_finding_at offset os)
 
 module _ (p : Policy) where
   -- The length of all replacements before the end of an entry.
@@ -121,8 +120,8 @@ pub record Mending : Type 0 where
 
 -- What an accepted call mends, by the open finding at its offset.
 abbrev pub mending_of : List Presentation → Option OpenFinding → List Mending
-mending_of ds none = []
-mending_of ds (some o) = record { start = o.was; decisions = ds } ∷ []
+mending_of ds None = []
+mending_of ds (Some o) = record { start = o.was; decisions = ds } ∷ []
 
 module _ (policy : List ℕ) where
   -- "The list's book is fed the first text, the policy, that text's findings".
@@ -144,8 +143,8 @@ module _ (policy : List ℕ) where
   -- ".. its decisions are valid (as many as the finding's eighth count, each 0 or 1) and its output holds the book's text after
   -- this": whether this holds for a call and the open finding at its offset, if there is one.
   unfoldable pub mends_finding : List Entry → Call → Option OpenFinding → Bool
-  mends_finding es c none = false
-  mends_finding es c (some o) =
+  mends_finding es c None = false
+  mends_finding es c (Some o) =
       eqb (length c.decisions) (non_canonicality (policy_of policy) o.item).presentation_decisions
       && (all_binary c.decisions && leb (length (book_text (marked es c))) (length c.out))
 

@@ -3,7 +3,29 @@
 -- Both are about the code. `format`, `list_bytes`, `list` and `mend` are the definitions that the contracts of `format_text`,
 -- `list_findings`, `list_into_table` and `mend` cite for the answer and the buffer of every call (crates formatting, listing and
 -- mending). There is no second model of a call.
-use Rattle.std.specs.Prelude.{◌≡◌, ◌↔◌, Bool, true, false, cond, ℕ, suc, ◌+◌, ◌*◌, ◌≤◌, ◌<◌, drop, length, take}
+use Rattle.base.specs.declared.Refusal.{Refusal}
+use Rattle.std.specs.Prelude.{
+  ◌≡◌,
+  ◌↔◌,
+  Bool,
+  true,
+  false,
+  cond,
+  ℕ,
+  suc,
+  ◌+◌,
+  ◌*◌,
+  ◌≤◌,
+  ◌<◌,
+  drop,
+  length,
+  take,
+  Ok,
+  Err,
+  Some,
+  None,
+  Result,
+}
 use mathlib.Core.List.{List, [], ◌∷◌, ◌++◌, map, Memᴰ}
 use Rattle.base.specs.Tables.{rows_bytes}
 use Rattle.utf8.specs.Rfc3629.{WellFormed, chars, encode_all}
@@ -44,10 +66,6 @@ use Rattle.analysis.specs.Decisions.{meaning}
 use Rattle.formatter.specs.Mend.{Call, mend, next_text, outcomes, text_after}
 use Rattle.base.specs.Refusals.{After}
 use Rattle.analysis.specs.declared.types.Finding.{Finding}
-use Rattle.formatter.specs.declared.FormatAnswer.TheVariants as Format
-use Rattle.base.specs.declared.ListAnswer.TheVariants as Listing
-use Rattle.analysis.specs.declared.types.MendAnswer.{MendAnswer}
-use Rattle.analysis.specs.declared.types.MendAnswer.TheVariants.{Mended, Refused}
 use Rattle.base.specs.declared.Refusal.TheVariants.{BadDecision, NoFinding, OutputTooShort, TableTooShort, WrongNumberOfDecisions}
 
 -- ---- words of the claim
@@ -58,12 +76,12 @@ pub data Each {A : Type 0} (P : A → Type 0) : List A → Type 0 where
   and_each : {x : A} {xs : List A} → P x → Each P xs → Each P (x ∷ xs)
 
 -- Whether the answer says that the call was accepted.
-abbrev pub is_mended : MendAnswer → Bool
-is_mended (Mended n) = true
-is_mended (Refused r) = false
+abbrev pub is_mended : Result ℕ Refusal → Bool
+is_mended (Ok n) = true
+is_mended (Err r) = false
 
 -- The number of accepted calls.
-abbrev pub accepted_calls : List (After MendAnswer ℕ) → ℕ
+abbrev pub accepted_calls : List (After (Result ℕ Refusal) ℕ) → ℕ
 accepted_calls [] = 0
 accepted_calls (a ∷ l) = cond (is_mended a.answer) (suc (accepted_calls l)) (accepted_calls l)
 
@@ -157,15 +175,15 @@ module _ (policy : List ℕ) where
     pub room : length (book_text policy (marked policy es c)) ≤ length c.out
 
   -- "the first refusal below that fits", with the value that it returns.
-  pub data FirstRefusal (es : List Entry) (c : Call) : MendAnswer → Type 0 where
-    no_finding_lem : ((o : OpenFinding) → OpenAt es c o → ⊥) → FirstRefusal es c (Refused NoFinding)
+  pub data FirstRefusal (es : List Entry) (c : Call) : Result ℕ Refusal → Type 0 where
+    no_finding_lem : ((o : OpenFinding) → OpenAt es c o → ⊥) → FirstRefusal es c (Err NoFinding)
     few-or-many : (o : OpenFinding) → OpenAt es c o → (AsMany c o → ⊥)
-        → FirstRefusal es c (Refused (WrongNumberOfDecisions (non_canonicality (policy_of policy) o.item).presentation_decisions))
+        → FirstRefusal es c (Err (WrongNumberOfDecisions (non_canonicality (policy_of policy) o.item).presentation_decisions))
     above-one : (o : OpenFinding) → OpenAt es c o → AsMany c o → (ds later : List ℕ) (d : ℕ) → c.decisions ≡ ds ++ d ∷ later
-        → Each (λ (d : ℕ). d ≤ 1) ds → 1 < d → FirstRefusal es c (Refused (BadDecision (length ds)))
+        → Each (λ (d : ℕ). d ≤ 1) ds → 1 < d → FirstRefusal es c (Err (BadDecision (length ds)))
     no_room : (o : OpenFinding) → OpenAt es c o → AsMany c o → Each (λ (d : ℕ). d ≤ 1) c.decisions
         → length c.out < length (book_text policy (marked policy es c))
-        → FirstRefusal es c (Refused (OutputTooShort (length (book_text policy (marked policy es c)))))
+        → FirstRefusal es c (Err (OutputTooShort (length (book_text policy (marked policy es c)))))
 
   -- The findings that the accepted calls of a list mend, with the decisions that they give, in the order of the calls.
   unfoldable pub mendings : List ℕ → List Entry → List Call → List Mending
@@ -193,7 +211,7 @@ module _ (policy : List ℕ) where
     given cs = mendings first (first_book policy first) cs
 
     -- The outcome of a call after other calls: its answer and its buffer.
-    abbrev pub call_outcome : List Call → Call → After MendAnswer ℕ
+    abbrev pub call_outcome : List Call → Call → After (Result ℕ Refusal) ℕ
     call_outcome before c = mend (text before) policy c.offset c.decisions c.out
 
     -- The counts of the mended findings, added up.
@@ -209,7 +227,7 @@ module _ (policy : List ℕ) where
       -- An accepted call writes the book's new text at the front of its output, and leaves the bytes after that as they were.
       pub writes : (before : List Call) (c : Call) → CallAfter cs before c → is_mended (call_outcome before c).answer ≡ true
           → call_outcome before c ≡ record {
-            answer = Mended (length (text (before ++ c ∷ [])));
+            answer = Ok (length (text (before ++ c ∷ [])));
             buffer = text (before ++ c ∷ []) ++ drop (length (text (before ++ c ∷ []))) c.out;
           }
       -- Any other call is answered with the first refusal that fits. Its buffer, the book and the text stay as they were.
@@ -227,20 +245,20 @@ module _ (policy : List ℕ) where
       -- Listing into a table with room gives exactly the open findings. Without room it gives their number.
       pub listed : (table : List Finding) → length (open_after cs) ≤ length table
           → list (text cs) policy table ≡ record {
-            answer = Listing.Listed (length (open_after cs));
+            answer = Ok (length (open_after cs));
             buffer = map (open_row (policy_of policy) (text cs)) (open_after cs) ++ drop (length (open_after cs)) table;
           }
       pub unlisted : (table : List Finding) → length table < length (open_after cs)
-          → list (text cs) policy table ≡ record { answer = Listing.Refused (TableTooShort (length (open_after cs))); buffer = table }
+          → list (text cs) policy table ≡ record { answer = Err (TableTooShort (length (open_after cs))); buffer = table }
       -- Listing into a table of bytes with room writes the bytes of the open findings' rows at the front, and leaves the bytes after them.
       pub listed-bytes : (table : List ℕ) → length (open_after cs) * row_bytes ≤ length table
           → list_bytes (text cs) policy table ≡ record {
-            answer = Listing.Listed (length (open_after cs));
+            answer = Ok (length (open_after cs));
             buffer = rows_bytes row_numbers (map (open_row (policy_of policy) (text cs)) (open_after cs))
                 ++ drop (length (open_after cs) * row_bytes) table;
           }
       pub unlisted-bytes : (table : List ℕ) → length table < length (open_after cs) * row_bytes
-          → list_bytes (text cs) policy table ≡ record { answer = Listing.Refused (TableTooShort (length (open_after cs))); buffer = table }
+          → list_bytes (text cs) policy table ≡ record { answer = Err (TableTooShort (length (open_after cs))); buffer = table }
       -- Each open finding is a finding of the first text.
       pub were-findings : (o : OpenFinding) → Memᴰ o (open_after cs) → Memᴰ (at_first_of o) (findings first policy)
       -- The open findings have the same bytes, counts and choices as in the first text.
@@ -283,12 +301,12 @@ module _ (policy : List ℕ) where
       -- The formatted text has no finding, whatever its length, and formatting it again changes nothing.
       pub none_left : findings result policy ≡ []
       pub none-listed : (table : List Finding) → length result ≤ 16777216 → list result policy table
-          ≡ record { answer = Listing.Listed 0; buffer = table }
+          ≡ record { answer = Ok 0; buffer = table }
       pub none-listed-bytes : (table : List ℕ) → length result ≤ 16777216 → list_bytes result policy table
-          ≡ record { answer = Listing.Listed 0; buffer = table }
+          ≡ record { answer = Ok 0; buffer = table }
       pub again : formatted result policy ≡ result
       pub again-unchanged : (out : List ℕ) → length result ≤ 16777216 → format result policy out
-          ≡ record { answer = Format.Unchanged; buffer = out }
+          ≡ record { answer = Ok None; buffer = out }
       -- Each of the eight totals is that of the first text, less the counts of all findings.
       pub eight-totals : text_totals result policy ⊕ totals (policy_of policy) (mended_items mended_all) ≡ text_totals first policy
       -- The number of selectors is that of the first text, less the six removing counts of all findings, plus their two adding ones.
@@ -302,10 +320,10 @@ module _ (policy : List ℕ) where
       pub no_change : (result ≡ first) ↔ (findings first policy ≡ [])
       -- For a text without a finding the call answers "unchanged", writes nothing and never gives 8. For any other text it writes the
       -- formatted text, or gives 8 with its length if the output is too short.
-      pub unchanged-said : (out : List ℕ) → ((format first policy out).answer ≡ Format.Unchanged) ↔ (findings first policy ≡ [])
+      pub unchanged-said : (out : List ℕ) → ((format first policy out).answer ≡ Ok None) ↔ (findings first policy ≡ [])
       pub unchanged-kept : (out : List ℕ) → findings first policy ≡ [] → format first policy out
-          ≡ record { answer = Format.Unchanged; buffer = out }
+          ≡ record { answer = Ok None; buffer = out }
       pub changed_written : (out : List ℕ) → 0 < length (findings first policy) → length result ≤ length out
-          → format first policy out ≡ record { answer = Format.Changed (length result); buffer = result ++ drop (length result) out }
+          → format first policy out ≡ record { answer = Ok (Some (length result)); buffer = result ++ drop (length result) out }
       pub changed-short : (out : List ℕ) → 0 < length (findings first policy) → length out < length result
-          → format first policy out ≡ record { answer = Format.Refused (OutputTooShort (length result)); buffer = out }
+          → format first policy out ≡ record { answer = Err (OutputTooShort (length result)); buffer = out }

@@ -1,15 +1,12 @@
 -- Formatting: the formatted text, and the whole outcome of the call, `format` (document 01, "Replacement and text", `format_text`).
-use Rattle.std.specs.Prelude.{Bool, true, false, cond, ◌&&◌, List, [], ◌∷◌, ◌++◌, ℕ, eqb, leb, length}
+use Rattle.std.specs.Prelude.{Bool, true, false, cond, ◌&&◌, List, [], ◌∷◌, ◌++◌, ℕ, eqb, leb, length, Ok, Err, Some, None, Result, Option}
 use Rattle.utf8.specs.Rfc3629.{chars, encode_all}
 use Rattle.policy.specs.declared.Policy.{Policy}
 use Rattle.policy.specs.PolicyBytes.{policy_of}
 use Rattle.scanner.specs.Items.{Item, items}
 use Rattle.analysis.specs.Analysis.{default_replacement, is_finding}
-use Rattle.base.specs.Answers.{done, nothing}
-use Rattle.base.specs.Refusals.{After, RefusalRow, unwritten, or_else, refusal_row, written}
+use Rattle.base.specs.Refusals.{After, unwritten, or_else, written}
 use Rattle.formatter.specs.Intake.{intake_refusal}
-use Rattle.formatter.specs.declared.FormatAnswer.{FormatAnswer}
-use Rattle.formatter.specs.declared.FormatAnswer.TheVariants.{Changed, Refused, Unchanged}
 use Rattle.base.specs.declared.Refusal.{Refusal}
 use Rattle.base.specs.declared.Refusal.TheVariants.{OutputTooShort}
 
@@ -29,18 +26,12 @@ same_bytes [] (b ∷ t) = false
 same_bytes (a ∷ s) [] = false
 same_bytes (a ∷ s) (b ∷ t) = eqb a b && same_bytes s t
 
--- The row of an answer: nothing to do, done with the number of bytes written, or the refusal.
-unfoldable pub format_row : FormatAnswer → RefusalRow
-format_row Unchanged = nothing
-format_row (Changed n) = done n
-format_row (Refused r) = refusal_row r
-
 -- The outcome of the call, with refusals 1, 2, 3 and 8 in this order. "Formatting a text that needs no change says so, writes nothing and
 -- never gives 8."
-unfoldable pub format : List ℕ → List ℕ → List ℕ → After FormatAnswer ℕ
+unfoldable pub format : List ℕ → List ℕ → List ℕ → After (Result (Option ℕ) Refusal) ℕ
 format text policy out =
     let result = formatted text policy in
-    or_else (intake_refusal text policy) (λ (r : Refusal). unwritten (Refused r) out)
-    (cond (same_bytes result text) (unwritten Unchanged out)
-    (cond (leb (length result) (length out)) (written (Changed (length result)) result out)
-    (unwritten (Refused (OutputTooShort (length result))) out)))
+    or_else (intake_refusal text policy) (λ (r : Refusal). unwritten (Err r) out)
+    (cond (same_bytes result text) (unwritten (Ok None) out)
+    (cond (leb (length result) (length out)) (written (Ok (Some (length result))) result out)
+    (unwritten (Err (OutputTooShort (length result))) out)))

@@ -1,10 +1,8 @@
 -- Listing: the whole outcome of each call, `list` and `list_bytes` for findings and `list_items` for items (document 01, "Counts and
 -- finding", "Turned back").
-use Rattle.std.specs.Prelude.{cond, List, [], ◌∷◌, ◌++◌, ℕ, leb, length}
+use Rattle.std.specs.Prelude.{cond, List, [], ◌∷◌, ◌++◌, ℕ, leb, length, Ok, Err, Result}
 use Rattle.base.specs.Refusals.{After, unwritten, or_else, written}
 use Rattle.base.specs.Tables.{fill_table}
-use Rattle.base.specs.declared.ListAnswer.{ListAnswer}
-use Rattle.base.specs.declared.ListAnswer.TheVariants.{Listed, Refused}
 use Rattle.base.specs.declared.Refusal.{Refusal}
 use Rattle.base.specs.declared.Refusal.TheVariants.{TableTooShort}
 use Rattle.scanner.specs.Spans.{kind_number, scan}
@@ -16,12 +14,12 @@ use Rattle.formatter.specs.Findings.{listed}
 use Rattle.formatter.specs.Intake.{intake_refusal}
 
 -- "The findings are listed in text order into a table lent by the caller", with refusals 1, 2, 3 and 7 in this order.
-unfoldable pub list : List ℕ → List ℕ → List Finding → After ListAnswer Finding
+unfoldable pub list : List ℕ → List ℕ → List Finding → After (Result ℕ Refusal) Finding
 list text policy table =
     let rows = listed text policy in
-    or_else (intake_refusal text policy) (λ (r : Refusal). unwritten (Refused r) table)
-    (cond (leb (length rows) (length table)) (written (Listed (length rows)) rows table)
-    (unwritten (Refused (TableTooShort (length rows))) table))
+    or_else (intake_refusal text policy) (λ (r : Refusal). unwritten (Err r) table)
+    (cond (leb (length rows) (length table)) (written (Ok (length rows)) rows table)
+    (unwritten (Err (TableTooShort (length rows))) table))
 
 -- ---- findings
 
@@ -51,9 +49,9 @@ row_bytes = 112
 
 -- The call on a table of bytes: the rows of `list` as bytes, and its refusals in their order. The theorem `ListedAsBytes` of
 -- specs/Theorems.antt says that `list` and `list_bytes` agree.
-unfoldable pub list_bytes : List ℕ → List ℕ → List ℕ → After ListAnswer ℕ
+unfoldable pub list_bytes : List ℕ → List ℕ → List ℕ → After (Result ℕ Refusal) ℕ
 list_bytes text policy table =
-    or_else (intake_refusal text policy) (λ (r : Refusal). unwritten (Refused r) table)
+    or_else (intake_refusal text policy) (λ (r : Refusal). unwritten (Err r) table)
     (fill_table row_numbers row_bytes (listed text policy) table)
 
 -- ---- items
@@ -70,6 +68,6 @@ abbrev pub item_bytes : ℕ
 item_bytes = 64
 
 -- Listing the items of a text into a table of bytes, with refusals 1, 3 and 7 in this order. The crate evfmt has no such call.
-unfoldable pub list_items : List ℕ → List ℕ → After ListAnswer ℕ
+unfoldable pub list_items : List ℕ → List ℕ → After (Result ℕ Refusal) ℕ
 list_items text table =
-    or_else (text_refusal text) (λ (r : Refusal). unwritten (Refused r) table) (fill_table item_numbers item_bytes (scan text) table)
+    or_else (text_refusal text) (λ (r : Refusal). unwritten (Err r) table) (fill_table item_numbers item_bytes (scan text) table)

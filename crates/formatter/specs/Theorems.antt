@@ -1,10 +1,8 @@
 -- What is claimed of formatting, listing and mending. Each statement is proved in proofs/Claims.antt.
-use Rattle.std.specs.Prelude.{◌≡◌, ◌↔◌, true, false, List, [], ◌∷◌, ◌++◌, ℕ, ◌+◌, ◌≤◌, ◌<◌, drop, length, take}
-use Rattle.std.proofs.Math.Option.{some, none}
+use Rattle.std.specs.Prelude.{◌≡◌, ◌↔◌, true, false, List, [], ◌∷◌, ◌++◌, ℕ, ◌+◌, ◌≤◌, ◌<◌, drop, length, take, Ok, Err, Some, None}
 use Rattle.base.specs.Refusals.{refusal_table}
 use Rattle.base.specs.Tables.{rows_bytes}
 use Rattle.base.specs.Words.{bytes_of}
-use Rattle.base.specs.declared.ListAnswer.TheVariants.{Refused}
 use Rattle.base.specs.declared.Refusal.{Refusal}
 use Rattle.base.specs.declared.Refusal.TheVariants.{NotWellFormed, TextTooLong}
 use Rattle.utf8.specs.Rfc3629.{WellFormed, chars, encode_all, valid_up_to_of}
@@ -15,7 +13,6 @@ use Rattle.analysis.specs.CellView.{format_cells, total_cells}
 use Rattle.analysis.specs.Findings.{finding_at}
 use Rattle.analysis.specs.ItemAt.{replace_at}
 use Rattle.analysis.specs.declared.types.Finding.{Finding}
-use Rattle.analysis.specs.declared.types.MendAnswer.TheVariants as Mend
 use Rattle.formatter.specs.Demand3.{Accepted, Each, FormattedClaim, ListClaim}
 use Rattle.formatter.specs.Filed.{filed_text}
 use Rattle.formatter.specs.Findings.{findings, listed, row_in, text_totals}
@@ -23,7 +20,6 @@ use Rattle.formatter.specs.Format.{format, formatted}
 use Rattle.formatter.specs.List.{list, list_bytes, row_bytes, row_numbers}
 use Rattle.formatter.specs.Mend.{Call, mend}
 use Rattle.formatter.specs.Intake.{intake_refusal, list_limit}
-use Rattle.formatter.specs.declared.FormatAnswer.TheVariants as Format
 
 -- ---- refusals
 
@@ -31,20 +27,20 @@ use Rattle.formatter.specs.declared.FormatAnswer.TheVariants as Format
 unfoldable pub IntakeInOrder : Type 0
 IntakeInOrder =
     (text policy : List ℕ)
-    → (16777217 ≤ length text → intake_refusal text policy ≡ some TextTooLong)
-    × ((r : Refusal) → length text ≤ 16777216 → policy_refusal policy ≡ some r → intake_refusal text policy ≡ some r)
+    → (16777217 ≤ length text → intake_refusal text policy ≡ Some TextTooLong)
+    × ((r : Refusal) → length text ≤ 16777216 → policy_refusal policy ≡ Some r → intake_refusal text policy ≡ Some r)
     × (length text ≤ 16777216 → is_policy policy ≡ true → (WellFormed text → ⊥) → intake_refusal text policy
-    ≡ some (NotWellFormed (valid_up_to_of text)))
-    × (Accepted policy text → intake_refusal text policy ≡ none)
+    ≡ Some (NotWellFormed (valid_up_to_of text)))
+    × (Accepted policy text → intake_refusal text policy ≡ None)
 
 -- Each call gives the refusal of the intake before any other, and then leaves its buffer or table as it was.
 unfoldable pub IntakeComesFirst : Type 0
 IntakeComesFirst =
-    (text policy : List ℕ) (r : Refusal) → intake_refusal text policy ≡ some r
-    → ((out : List ℕ) → format text policy out ≡ record { answer = Format.Refused r; buffer = out })
-    × ((table : List Finding) → list text policy table ≡ record { answer = Refused r; buffer = table })
-    × ((table : List ℕ) → list_bytes text policy table ≡ record { answer = Refused r; buffer = table })
-    × ((offset : ℕ) (decisions out : List ℕ) → mend text policy offset decisions out ≡ record { answer = Mend.Refused r; buffer = out })
+    (text policy : List ℕ) (r : Refusal) → intake_refusal text policy ≡ Some r
+    → ((out : List ℕ) → format text policy out ≡ record { answer = Err r; buffer = out })
+    × ((table : List Finding) → list text policy table ≡ record { answer = Err r; buffer = table })
+    × ((table : List ℕ) → list_bytes text policy table ≡ record { answer = Err r; buffer = table })
+    × ((offset : ℕ) (decisions out : List ℕ) → mend text policy offset decisions out ≡ record { answer = Err r; buffer = out })
 
 -- ---- mending and the replacement alone
 
@@ -53,9 +49,9 @@ IntakeComesFirst =
 unfoldable pub MendsByReplacement : Type 0
 MendsByReplacement =
     (text policy : List ℕ) (offset : ℕ) (decisions out room : List ℕ) (x : Item) (n m : ℕ)
-    → finding_at offset (findings text policy) ≡ some x
-    → (mend text policy offset decisions out).answer ≡ Mend.Mended n
-    → (replace_at (policy_of policy) text offset decisions room).answer ≡ Mend.Mended m
+    → finding_at offset (findings text policy) ≡ Some x
+    → (mend text policy offset decisions out).answer ≡ Ok n
+    → (replace_at (policy_of policy) text offset decisions room).answer ≡ Ok m
     → take n (mend text policy offset decisions out).buffer
     ≡ take offset text ++ take m (replace_at (policy_of policy) text offset decisions room).buffer
     ++ drop (offset + length (encode_all x.chars)) text
@@ -64,8 +60,8 @@ MendsByReplacement =
 unfoldable pub MendsTestAlike : Type 0
 MendsTestAlike =
     (text policy : List ℕ) (offset : ℕ) (decisions out room : List ℕ) (r : Refusal) → is_policy policy ≡ true → (refusal_table r).number ≤ 6
-    → ((mend text policy offset decisions out).answer ≡ Mend.Refused r)
-    ↔ ((replace_at (policy_of policy) text offset decisions room).answer ≡ Mend.Refused r)
+    → ((mend text policy offset decisions out).answer ≡ Err r)
+    ↔ ((replace_at (policy_of policy) text offset decisions room).answer ≡ Err r)
 
 -- ---- listing
 
@@ -130,9 +126,9 @@ ListedAsBytes =
 unfoldable pub FiledIsFormatted : Type 0
 FiledIsFormatted =
     (text policy out : List ℕ) (len : ℕ) → Accepted policy text
-    → ((format text policy out).answer ≡ Format.Changed len → filed_text text (format text policy out).buffer true len
+    → ((format text policy out).answer ≡ Ok (Some len) → filed_text text (format text policy out).buffer true len
     ≡ formatted text policy)
-    × ((format text policy out).answer ≡ Format.Unchanged → filed_text text (format text policy out).buffer false len
+    × ((format text policy out).answer ≡ Ok None → filed_text text (format text policy out).buffer false len
     ≡ formatted text policy)
 
 -- ---- a list of mending calls, and a formatted text

@@ -1,5 +1,6 @@
 -- Document 01's worked texts, and a worked list of calls.
-use Rattle.std.specs.Prelude.{◌≡◌, List, [], ◌∷◌, ◌++◌, map, ℕ, ◌≤◌, drop, length}
+use Rattle.base.specs.declared.Refusal.{Refusal}
+use Rattle.std.specs.Prelude.{◌≡◌, List, [], ◌∷◌, ◌++◌, map, ℕ, ◌≤◌, drop, length, Ok, Err, Some, None, Result, Option}
 use Rattle.utf8.specs.Rfc3629.{encode_all}
 use Rattle.policy.specs.DefaultPolicy.{default_policy}
 use Rattle.policy.specs.PolicyBytes.{policy_bytes}
@@ -18,12 +19,6 @@ use Rattle.formatter.specs.Mend.{Call, mend, outcomes, text_after}
 use Rattle.base.specs.Refusals.{After}
 use Rattle.formatter.specs.Intake.{list_limit}
 use Rattle.analysis.specs.declared.types.Finding.{Finding}
-use Rattle.formatter.specs.declared.FormatAnswer.{FormatAnswer}
-use Rattle.formatter.specs.declared.FormatAnswer.TheVariants as Format
-use Rattle.base.specs.declared.ListAnswer.{ListAnswer}
-use Rattle.base.specs.declared.ListAnswer.TheVariants.{Listed, Refused}
-use Rattle.analysis.specs.declared.types.MendAnswer.{MendAnswer}
-use Rattle.analysis.specs.declared.types.MendAnswer.TheVariants as Mend
 use Rattle.base.specs.declared.Refusal.TheVariants.{
   BadDecision,
   NoFinding,
@@ -64,8 +59,8 @@ blank = finding 0 0 empty 0 0 0 0
 pub record WorkedText : Type 0 where
   pub text : List ℕ
   pub items : List (ℕ × ℕ)
-  pub formatting : After FormatAnswer ℕ
-  pub listing : After ListAnswer Finding
+  pub formatting : After (Result (Option ℕ) Refusal) ℕ
+  pub listing : After (Result ℕ Refusal) Finding
   pub totals : NonCanonicality
 
 -- What the definitions give for a text of these characters.
@@ -83,8 +78,8 @@ abbrev pub becomes : List ℕ → ℕ → List ℕ → NonCanonicality → Worke
 becomes t end r n = record {
   text = t;
   items = (0, end) ∷ [];
-  formatting = record { answer = Format.Changed (length (encode_all r)); buffer = encode_all r ++ drop (length (encode_all r)) room };
-  listing = record { answer = Listed 1; buffer = finding 0 end n 0 (length t) 0 (units t) ∷ blank ∷ [] };
+  formatting = record { answer = Ok (Some (length (encode_all r))); buffer = encode_all r ++ drop (length (encode_all r)) room };
+  listing = record { answer = Ok 1; buffer = finding 0 end n 0 (length t) 0 (units t) ∷ blank ∷ [] };
   totals = n;
 }
 
@@ -93,8 +88,8 @@ abbrev pub stays : List ℕ → List (ℕ × ℕ) → WorkedText
 stays t spans = record {
   text = t;
   items = spans;
-  formatting = record { answer = Format.Unchanged; buffer = room };
-  listing = record { answer = Listed 0; buffer = blank ∷ blank ∷ [] };
+  formatting = record { answer = Ok None; buffer = room };
+  listing = record { answer = Ok 0; buffer = blank ∷ blank ∷ [] };
   totals = empty;
 }
 
@@ -147,23 +142,23 @@ example_rows = finding 0 4 (eight 0 0 0 0 0 0 1 0) 0 2 0 2 ∷ finding 5 8 (eigh
 -- example with a further byte that begins no character is refused.
 unfoldable pub ExampleCalls : Type 0
 ExampleCalls =
-    (list example_bytes the_default (blank ∷ blank ∷ blank ∷ []) ≡ record { answer = Listed 2; buffer = example_rows ++ blank ∷ [] })
-    × (list example_bytes the_default (blank ∷ []) ≡ record { answer = Refused (TableTooShort 2); buffer = blank ∷ [] })
+    (list example_bytes the_default (blank ∷ blank ∷ blank ∷ []) ≡ record { answer = Ok 2; buffer = example_rows ++ blank ∷ [] })
+    × (list example_bytes the_default (blank ∷ []) ≡ record { answer = Err (TableTooShort 2); buffer = blank ∷ [] })
     × (text_totals example_bytes the_default ≡ eight 0 0 0 0 0 0 1 1)
     × (format example_bytes the_default room
-    ≡ record { answer = Format.Changed 8; buffer = 0x31 ∷ 0x20 ∷ 0xE2 ∷ 0x9D ∷ 0xA4 ∷ 0xEF ∷ 0xB8 ∷ 0x8E ∷ 7 ∷ 7 ∷ 7 ∷ 7 ∷ [] })
+    ≡ record { answer = Ok (Some 8); buffer = 0x31 ∷ 0x20 ∷ 0xE2 ∷ 0x9D ∷ 0xA4 ∷ 0xEF ∷ 0xB8 ∷ 0x8E ∷ 7 ∷ 7 ∷ 7 ∷ 7 ∷ [] })
     × (mend example_bytes the_default 5 (1 ∷ []) room
-    ≡ record { answer = Mend.Mended 11; buffer = 0x31 ∷ 0xEF ∷ 0xB8 ∷ 0x8E ∷ 0x20 ∷ 0xE2 ∷ 0x9D ∷ 0xA4 ∷ 0xEF ∷ 0xB8 ∷ 0x8F ∷ 7 ∷ [] })
-    × (replace_at default_policy example_bytes 0 [] room ≡ record { answer = Mend.Mended 1; buffer = 0x31 ∷ drop 1 room })
-    × (replace_at default_policy example_bytes 1 [] room ≡ record { answer = Mend.Refused NoFinding; buffer = room })
+    ≡ record { answer = Ok 11; buffer = 0x31 ∷ 0xEF ∷ 0xB8 ∷ 0x8E ∷ 0x20 ∷ 0xE2 ∷ 0x9D ∷ 0xA4 ∷ 0xEF ∷ 0xB8 ∷ 0x8F ∷ 7 ∷ [] })
+    × (replace_at default_policy example_bytes 0 [] room ≡ record { answer = Ok 1; buffer = 0x31 ∷ drop 1 room })
+    × (replace_at default_policy example_bytes 1 [] room ≡ record { answer = Err NoFinding; buffer = room })
     × (replace_at default_policy example_bytes 5 (1 ∷ []) room
-    ≡ record { answer = Mend.Mended 6; buffer = 0xE2 ∷ 0x9D ∷ 0xA4 ∷ 0xEF ∷ 0xB8 ∷ 0x8F ∷ drop 6 room })
+    ≡ record { answer = Ok 6; buffer = 0xE2 ∷ 0x9D ∷ 0xA4 ∷ 0xEF ∷ 0xB8 ∷ 0x8F ∷ drop 6 room })
     × (replace_by_default default_policy example_bytes 5 room
-    ≡ record { answer = Mend.Mended 6; buffer = 0xE2 ∷ 0x9D ∷ 0xA4 ∷ 0xEF ∷ 0xB8 ∷ 0x8E ∷ drop 6 room })
-    × (replace_by_default default_policy example_bytes 1 room ≡ record { answer = Mend.Refused NoFinding; buffer = room })
-    × (replace_at default_policy (example_bytes ++ 0xFF ∷ []) 0 [] room ≡ record { answer = Mend.Refused (NotWellFormed 8); buffer = room })
+    ≡ record { answer = Ok 6; buffer = 0xE2 ∷ 0x9D ∷ 0xA4 ∷ 0xEF ∷ 0xB8 ∷ 0x8E ∷ drop 6 room })
+    × (replace_by_default default_policy example_bytes 1 room ≡ record { answer = Err NoFinding; buffer = room })
+    × (replace_at default_policy (example_bytes ++ 0xFF ∷ []) 0 [] room ≡ record { answer = Err (NotWellFormed 8); buffer = room })
     × (replace_by_default default_policy (example_bytes ++ 0xFF ∷ []) 0 room
-    ≡ record { answer = Mend.Refused (NotWellFormed 8); buffer = room })
+    ≡ record { answer = Err (NotWellFormed 8); buffer = room })
 
 -- ---- a worked list
 
@@ -172,7 +167,7 @@ abbrev pub call : ℕ → List ℕ → List ℕ → Call
 call offset decisions out = record { offset = offset; decisions = decisions; out = out }
 
 -- The outcome of a call.
-abbrev pub leaves : MendAnswer → List ℕ → After MendAnswer ℕ
+abbrev pub leaves : Result ℕ Refusal → List ℕ → After (Result ℕ Refusal) ℕ
 leaves a out = record { answer = a; buffer = out }
 
 -- The bytes of FE0F 2764: a finding at 0, and one at 3 that wants a decision.
@@ -201,13 +196,13 @@ worked_calls =
 unfoldable pub WorkedList : Type 0
 WorkedList =
     (outcomes two_findings the_default worked_calls
-    ≡ leaves (Mend.Refused NoFinding) six
-    ∷ leaves (Mend.Refused (WrongNumberOfDecisions 1)) six
-    ∷ leaves (Mend.Refused (BadDecision 0)) six
-    ∷ leaves (Mend.Refused (OutputTooShort 9)) six
-    ∷ leaves (Mend.Mended 3) (0xE2 ∷ 0x9D ∷ 0xA4 ∷ 9 ∷ 9 ∷ 9 ∷ [])
-    ∷ leaves (Mend.Mended 6) (0xE2 ∷ 0x9D ∷ 0xA4 ∷ 0xEF ∷ 0xB8 ∷ 0x8E ∷ [])
-    ∷ leaves (Mend.Refused NoFinding) six
+    ≡ leaves (Err NoFinding) six
+    ∷ leaves (Err (WrongNumberOfDecisions 1)) six
+    ∷ leaves (Err (BadDecision 0)) six
+    ∷ leaves (Err (OutputTooShort 9)) six
+    ∷ leaves (Ok 3) (0xE2 ∷ 0x9D ∷ 0xA4 ∷ 9 ∷ 9 ∷ 9 ∷ [])
+    ∷ leaves (Ok 6) (0xE2 ∷ 0x9D ∷ 0xA4 ∷ 0xEF ∷ 0xB8 ∷ 0x8E ∷ [])
+    ∷ leaves (Err NoFinding) six
     ∷ [])
     × (text_after two_findings the_default worked_calls ≡ 0xE2 ∷ 0x9D ∷ 0xA4 ∷ 0xEF ∷ 0xB8 ∷ 0x8E ∷ [])
     × (map place (open_findings the_default (first_book the_default two_findings)) ≡ 0 ∷ 3 ∷ [])

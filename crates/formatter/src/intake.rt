@@ -6,32 +6,30 @@ ghost use Rattle.base.specs.Answers.{Answers, check_row};
 ghost use Rattle.base.specs.Refusals.{checked};
 ghost use Rattle.formatter.specs.Intake.{first_tests, intake_refusal};
 
-use base::{Check, Refusal, TEXT_LIMIT};
+use base::{Refusal, TEXT_LIMIT};
 use policy::policy_bytes::{is_policy, policy_refusal};
 
 // Tests the length of a text and the bytes of a policy, and gives the first refusal if there is one.
-pub fn first_tests(text: &[u8], policy: &[u8]) -> Check
+pub fn first_tests(text: &[u8], policy: &[u8]) -> Result<(), Refusal>
     ensures { Answers check_row (checked (first_tests text.now policy.now)) result }
 {
     if TEXT_LIMIT < text.len() {
-        return Check::Refused(Refusal::TextTooLong);
+        return Err(Refusal::TextTooLong);
     }
     if !is_policy(policy) {
-        return Check::Refused(policy_refusal(policy));
+        return Err(policy_refusal(policy));
     }
-    Check::Passed
+    Ok(())
 }
 
 // Tests the bytes of a text and of a policy, and gives the first refusal if there is one.
-pub fn intake(text: &[u8], policy: &[u8]) -> Check
+pub fn intake(text: &[u8], policy: &[u8]) -> Result<(), Refusal>
     ensures { Answers check_row (checked (intake_refusal text.now policy.now)) result }
 {
-    if let Check::Refused(refusal) = first_tests(text, policy) {
-        return Check::Refused(refusal);
-    }
+    first_tests(text, policy)?;
     let valid_up_to = utf8_validity::valid_up_to(text);
     if valid_up_to != text.len() {
-        return Check::Refused(Refusal::NotWellFormed { valid_up_to });
+        return Err(Refusal::NotWellFormed { valid_up_to });
     }
-    Check::Passed
+    Ok(())
 }

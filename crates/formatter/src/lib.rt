@@ -5,13 +5,3 @@
 
 pub mod filed;
 pub mod intake;
-
-use base::Refusal;
-
-// The answer of formatting: the text needs no change, the formatted text was written in `len` bytes, or a refusal.
-#[derive(Clone, Copy)]
-pub enum FormatAnswer {
-    Unchanged,
-    Changed { len: usize },
-    Refused(Refusal),
-}

@@ -1,5 +1,7 @@
 -- Formatting an accepted text by its cells: the text is unchanged exactly if the rules count nothing; else the formatted text is
 -- that of its cells.
+use Rattle.base.specs.declared.Refusal.{Refusal}
+use Rattle.std.specs.Prelude.{Ok, Err, Some, None, Result, Option}
 use mathlib.Core.Path.{◌≡◌, refl, ap, sym, ◌∙◌}
 use mathlib.Core.Bool.{Bool, true, false, cond, not, false≢true}
 use mathlib.Core.List.{List, [], ◌∷◌}
@@ -20,14 +22,10 @@ use Rattle.analysis.specs.Analysis.{is_finding, non_canonicality}
 use Rattle.analysis.specs.CellView.{total_cells}
 use Rattle.analysis.specs.Counts.{total}
 use Rattle.analysis.specs.Decisions.{write_out}
-use Rattle.analysis.specs.declared.types.MendAnswer.{MendAnswer}
-use Rattle.analysis.specs.declared.types.MendAnswer.TheVariants as Mend
 use Rattle.formatter.specs.Demand3.{Accepted}
 use Rattle.analysis.specs.Findings.{totals}
 use Rattle.formatter.specs.Findings.{findings}
 use Rattle.formatter.specs.Format.{format, formatted, same_bytes}
-use Rattle.formatter.specs.declared.FormatAnswer.{FormatAnswer}
-use Rattle.formatter.specs.declared.FormatAnswer.TheVariants.{Changed, Refused, Unchanged}
 use Rattle.analysis.proofs.Replacing.{out_put, out_short}
 use Rattle.text_pass.specs.Changes.{formatted_from}
 use Rattle.formatter.proofs.CellView.{cell_view}
@@ -56,11 +54,11 @@ none-counted p n (x ∷ xs) e = go (eqb (total (non_canonicality p x)) 0) refl e
         absurd (false≢true (sym f ∙ eq-eqb (total (non_canonicality p x)) 0 z))
 
 -- The answer of `write_out` as an answer of formatting.
-abbrev pub answer_as : MendAnswer → FormatAnswer
-answer_as (Mend.Mended n) = Changed n
-answer_as (Mend.Refused r) = Refused r
+abbrev pub answer_as : Result ℕ Refusal → Result (Option ℕ) Refusal
+answer_as (Ok n) = Ok (Some n)
+answer_as (Err r) = Err r
 
-abbrev pub as_format : After MendAnswer ℕ → After FormatAnswer ℕ
+abbrev pub as_format : After (Result ℕ Refusal) ℕ → After (Result (Option ℕ) Refusal) ℕ
 as_format a = record { answer = answer_as a.answer; buffer = a.buffer }
 
 module _ (policy text : List ℕ) (a : Accepted policy text) where
@@ -96,8 +94,8 @@ module _ (policy text : List ℕ) (a : Accepted policy text) where
   write_as : (out : List ℕ) → as_format (write_out F out) ≡ format_tests false (leb (length F) (length out)) F out
   write_as out = go (leb (length F) (length out))
     where
-      go : (b : Bool) → as_format (cond b (written (Mend.Mended (length F)) F out)
-          (unwritten (Mend.Refused (OutputTooShort (length F))) out)) ≡ format_tests false b F out
+      go : (b : Bool) → as_format (cond b (written (Ok (length F)) F out)
+          (unwritten (Err (OutputTooShort (length F))) out)) ≡ format_tests false b F out
       go true = refl
       go false = refl
 
@@ -105,7 +103,7 @@ module _ (policy text : List ℕ) (a : Accepted policy text) where
       → format text policy out ≡ format_tests b (leb (length F) (length out)) F out
   test_same out b e = format_is policy text out a ∙ ap (λ (t : Bool). format_tests t (leb (length F) (length out)) F out) (same-cells ∙ e)
 
-  pub format_unchanged : (out : List ℕ) → eqb (total (total_cells P (chars text))) 0 ≡ true → unwritten Unchanged out
+  pub format_unchanged : (out : List ℕ) → eqb (total (total_cells P (chars text))) 0 ≡ true → unwritten (Ok None) out
       ≡ format text policy out
   format_unchanged out e = sym (test_same out true e)
 
@@ -116,14 +114,14 @@ module _ (policy text : List ℕ) (a : Accepted policy text) where
   -- A formatted text that differs from the text is refused if the output is too short.
   pub format-short : (out : List ℕ) (n : ℕ) → eqb (total (total_cells P (chars text))) 0 ≡ false → n ≡ length (formatted_from P text 0)
       → length out < n
-      → unwritten (Refused (OutputTooShort n)) out ≡ format text policy out
+      → unwritten (Err (OutputTooShort n)) out ≡ format text policy out
   format-short out n e f l =
       ap as_format (out_short (formatted_from P text 0) out n f l ∙ ap (λ (r : List ℕ). write_out r out) cells_are) ∙ write_as out
       ∙ sym (test_same out false e)
 
   pub format-written : (out after : List ℕ) (n r : ℕ) → eqb (total (total_cells P (chars text))) 0 ≡ false → n
       ≡ length (formatted_from P text 0) → n ≤ length out
-      → PutAt out 0 (formatted_from P text 0) after r → record { answer = Changed n; buffer = after } ≡ format text policy out
+      → PutAt out 0 (formatted_from P text 0) after r → record { answer = Ok (Some n); buffer = after } ≡ format text policy out
   format-written out after n r e f l w =
       ap as_format (out_put (formatted_from P text 0) out n f after r l w ∙ ap (λ (r : List ℕ). write_out r out) cells_are) ∙ write_as out
       ∙ sym (test_same out false e)
@@ -131,9 +129,9 @@ module _ (policy text : List ℕ) (a : Accepted policy text) where
   -- With enough room, the answer has the length of the formatted text.
   pub format_fits : (out : List ℕ) (n : ℕ) → eqb (total (total_cells P (chars text))) 0 ≡ false → n ≡ length (formatted_from P text 0)
       → n ≤ length out
-      → Changed n ≡ (format text policy out).answer
+      → Ok (Some n) ≡ (format text policy out).answer
   format_fits out n e f l =
       let g : n ≡ length F = f ∙ ap length cells_are in
-      ap Changed g
-      ∙ sym (ap (λ (x : After FormatAnswer ℕ). x.answer)
+      ap (λ (k : ℕ). Ok (Some k)) g
+      ∙ sym (ap (λ (x : After (Result (Option ℕ) Refusal) ℕ). x.answer)
       (test_same out false e ∙ ap (λ (t : Bool). format_tests false t F out) (le-leb (length F) (length out) (omega (arith, g)))))

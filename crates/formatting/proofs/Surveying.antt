@@ -1,4 +1,5 @@
 -- Going through a text from change to change: what is measured or written so far, together with the rest, is the whole formatted text.
+use Rattle.std.specs.Prelude.{Some, None, Option}
 use mathlib.Core.Path.{◌≡◌, refl, ap, ap₂, sym, ◌∙◌}
 use mathlib.Core.Bool.{Bool, true, false}
 use mathlib.Core.List.{List, [], ◌∷◌, ◌++◌, append_assoc}
@@ -21,8 +22,6 @@ use Rattle.analysis.specs.Cells.{split}
 use Rattle.analysis.specs.Counts.{total}
 use Rattle.analysis.specs.Rules.{run_with}
 use Rattle.analysis.proofs.Lengths.{render_bytes}
-use Rattle.emoji.specs.declared.presentation.FromSelector.{FromSelector}
-use Rattle.emoji.specs.declared.presentation.FromSelector.TheVariants.{NoSelector, Selector}
 use Rattle.emoji.specs.declared.presentation.Presentation.{Presentation}
 use Rattle.emoji.specs.declared.presentation.Presentation.TheVariants.{Emoji, Text}
 use Rattle.emoji.specs.Presentation.{as_selector}
@@ -72,7 +71,8 @@ module _ (p : Policy) (text : List ℕ) where
             inside = s.advances.inside l;
             formatted =
                 s.formatted ∙ ap (λ (n : ℕ). take (n - from) (drop from text) ++ formatted_from p text c.end) (sym x.start-is-end)
-                ∙ ap (λ (f : FromSelector). take (c.start - from) (drop from text) ++ (selector_bytes f ++ formatted_from p text c.end))
+                ∙ ap (λ (f : Option Presentation). take (c.start - from) (drop from text)
+                ++ (selector_bytes f ++ formatted_from p text c.end))
                 (sym x.no_selector);
             valid = s.advances.valid;
           }
@@ -184,23 +184,23 @@ module _ (p : Policy) (text : List ℕ) where
 
 -- ---- the bytes of a selector
 
-pub no_bytes : (s : FromSelector) → s ≡ NoSelector → [] ≡ selector_bytes s
+pub no_bytes : (s : Option Presentation) → s ≡ None → [] ≡ selector_bytes s
 unfolding encode_all run_with
 no_bytes s e = ap selector_bytes (sym e)
 
-pub text_bytes : selector_bytes (Selector Text) ≡ 0xEF ∷ 0xB8 ∷ 0x8E ∷ []
+pub text_bytes : selector_bytes (Some Text) ≡ 0xEF ∷ 0xB8 ∷ 0x8E ∷ []
 unfolding encode_all encode run_with as_selector
 text_bytes = refl
 
-pub emoji_bytes : selector_bytes (Selector Emoji) ≡ 0xEF ∷ 0xB8 ∷ 0x8F ∷ []
+pub emoji_bytes : selector_bytes (Some Emoji) ≡ 0xEF ∷ 0xB8 ∷ 0x8F ∷ []
 unfolding encode_all encode run_with as_selector
 emoji_bytes = refl
 
-pub three_bytes : (s : FromSelector) (q : Presentation) → s ≡ Selector q → length (selector_bytes s) ≡ 3
-three_bytes s Text e = ap (λ (x : FromSelector). length (selector_bytes x)) e ∙ ap length text_bytes
-three_bytes s Emoji e = ap (λ (x : FromSelector). length (selector_bytes x)) e ∙ ap length emoji_bytes
+pub three_bytes : (s : Option Presentation) (q : Presentation) → s ≡ Some q → length (selector_bytes s) ≡ 3
+three_bytes s Text e = ap (λ (x : Option Presentation). length (selector_bytes x)) e ∙ ap length text_bytes
+three_bytes s Emoji e = ap (λ (x : Option Presentation). length (selector_bytes x)) e ∙ ap length emoji_bytes
 
-pub selector_put : (o : List ℕ) (at b : ℕ) (s : FromSelector) → selector_bytes s ≡ 0xEF ∷ 0xB8 ∷ b ∷ []
+pub selector_put : (o : List ℕ) (at b : ℕ) (s : Option Presentation) → selector_bytes s ≡ 0xEF ∷ 0xB8 ∷ b ∷ []
     → PutAt o at (selector_bytes s) (set (set (set o at 0xEF) (at + 1) 0xB8) (at + 2) b) (at + 3)
 selector_put o at b s e = record {
   ends = omega (arith, ap length e);

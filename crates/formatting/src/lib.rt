@@ -4,20 +4,18 @@
 // `format_answer` gives the answer of `format` and writes nothing, and `write_formatted` writes without an answer.
 #![tactic(auto)]
 
-ghost use Rattle.std.specs.Prelude.{◌≡◌, true, false, List, [], ◌∷◌, ◌++◌, ℕ, ◌+◌, ◌-◌, ◌≤◌, ◌<◌, leb, drop, length, take};
-ghost use Rattle.base.specs.Answers.{EndsAs};
+ghost use Rattle.std.specs.Prelude.{◌≡◌, true, false, List, [], ◌∷◌, ◌++◌, ℕ, ◌+◌, ◌-◌, ◌≤◌, ◌<◌, leb, drop, length, take, Some};
+ghost use Rattle.base.specs.Answers.{EndsAs, optional_row};
 ghost use Rattle.base.specs.Output.{PutAt};
 ghost use Rattle.base.specs.Refusals.{text_limit};
 ghost use Rattle.utf8.specs.Rfc3629.{valid_up_to_of};
-ghost use Rattle.emoji.specs.declared.presentation.FromSelector.TheVariants.{Selector};
 ghost use Rattle.policy.specs.PolicyBytes.{policy_of};
 ghost use Rattle.text_pass.specs.Changes.{NextChange, formatted_from, selector_bytes};
-ghost use Rattle.formatter.specs.Format.{format, format_row};
+ghost use Rattle.formatter.specs.Format.{format};
 ghost use Rattle.formatting.specs.FirstChange.{FirstChange};
 
-use base::{Check, Refusal, TEXT_LIMIT};
-use emoji::presentation::{FromSelector, Presentation};
-use formatter::FormatAnswer;
+use base::{Refusal, TEXT_LIMIT};
+use emoji::presentation::Presentation;
 use formatter::intake::first_tests;
 use policy::policy_bytes::ascii_keys_bare;
 use room::default_room;
@@ -34,13 +32,13 @@ struct Survey {
     len: usize,
 }
 
-// The number of bytes of a selector; `NoSelector` has none.
-fn selector_len(selector: FromSelector) -> usize
+// The number of bytes of a selector, or 0 without one.
+fn selector_len(selector: Option<Presentation>) -> usize
     ensures { result ≡ length (selector_bytes selector) }
 {
     match selector {
-        FromSelector::NoSelector => 0,
-        FromSelector::Selector(_) => SELECTOR_BYTES,
+        None => 0,
+        Some(_) => SELECTOR_BYTES,
     }
 }
 
@@ -54,8 +52,7 @@ fn survey_text(text: &[u8], policy: &[u8], first: Change) -> Survey
     let mut len = 0;
     let mut change = first;
     loop {
-        let selector = change.selector;
-        len += change.start - at + selector_len(selector);
+        len += change.start - at + selector_len(change.selector);
         at = change.end;
         if !change.present {
             return Survey {
@@ -78,7 +75,7 @@ fn put_part(text: &[u8], from: usize, to: usize, out: &mut [u8], at: usize) -> u
 
 // The third byte of a selector; the first two are EF B8.
 fn last_byte(presentation: Presentation) -> u8
-    ensures { selector_bytes (Selector presentation) ≡ 0xEF ∷ 0xB8 ∷ result ∷ [] }
+    ensures { selector_bytes (Some presentation) ≡ 0xEF ∷ 0xB8 ∷ result ∷ [] }
 {
     match presentation {
         Presentation::Text => 0x8E,
@@ -86,14 +83,14 @@ fn last_byte(presentation: Presentation) -> u8
     }
 }
 
-// Puts a selector into the output, which has room for it, and returns where it ends there. `NoSelector` puts nothing.
-fn put_selector(out: &mut [u8], at: usize, selector: FromSelector) -> usize
+// Puts a selector into the output, which has room for it, and returns where it ends there. Without a selector it puts nothing.
+fn put_selector(out: &mut [u8], at: usize, selector: Option<Presentation>) -> usize
     requires { at + length (selector_bytes selector) ≤ length out.old }
     ensures { PutAt out.old at (selector_bytes selector) out.new result }
 {
     match selector {
-        FromSelector::NoSelector => at,
-        FromSelector::Selector(presentation) => {
+        None => at,
+        Some(presentation) => {
             out[at] = 0xEF;
             out[at + 1] = 0xB8;
             out[at + 2] = last_byte(presentation);
@@ -110,9 +107,8 @@ fn put_change(text: &[u8], from: usize, change: Change, out: &mut [u8], at: usiz
     ensures { PutAt out.old at
         (take (change.start - from) (drop from text.now) ++ selector_bytes change.selector) out.new result }
 {
-    let selector = change.selector;
     let end = put_part(text, from, change.start, out, at);
-    put_selector(out, end, selector)
+    put_selector(out, end, change.selector)
 }
 
 // Puts what formatting makes of the text from an offset on into the output, which has room for it. The caller knows the next change from
@@ -144,20 +140,25 @@ fn put_changes(
 }
 
 // Formats a text into an output that may be too short: it measures the formatted text before it writes. The caller knows the first change.
-fn format_measured(text: &[u8], policy: &[u8], first: Change, out: &mut [u8]) -> FormatAnswer
+fn format_measured(
+    text: &[u8],
+    policy: &[u8],
+    first: Change,
+    out: &mut [u8],
+) -> Result<Option<usize>, Refusal>
     requires { FirstChange text.now policy.now first }
     ensures { record { answer = result; buffer = out.new }
         ≡ format text.now policy.now out.old }
 {
     let Survey { valid_up_to, len } = survey_text(text, policy, first);
     if valid_up_to != text.len() {
-        return FormatAnswer::Refused(Refusal::NotWellFormed { valid_up_to });
+        return Err(Refusal::NotWellFormed { valid_up_to });
     }
     if out.len() < len {
-        return FormatAnswer::Refused(Refusal::OutputTooShort { wanted: len });
+        return Err(Refusal::OutputTooShort { wanted: len });
     }
     put_changes(text, policy, 0, first, out, 0);
-    FormatAnswer::Changed { len }
+    Ok(Some(len))
 }
 
 // The length of the longest well-formed beginning of a text, by the answer of `next_change`. If no change is present, that is where the
@@ -167,16 +168,20 @@ fn valid_after(text: &[u8], change: Change) -> usize
     ensures { (change.present ≡ true → result ≡ change.end + valid_up_to_of (drop change.end text.now))
         × (change.present ≡ false → result ≡ change.end) }
 {
-    let end = change.end;
     if !change.present {
-        return end;
+        return change.end;
     }
-    end + utf8_validity::valid_up_to(&text[end..])
+    utf8_validity::valid_end(text, change.end)
 }
 
 // Formats a text into an output that has room for the formatted text. The caller knows the first change. Before the function writes, it
 // looks for the second one: most messages have none, and then the search has tested the rest of the text too.
-fn format_at_once(text: &[u8], policy: &[u8], first: Change, out: &mut [u8]) -> FormatAnswer
+fn format_at_once(
+    text: &[u8],
+    policy: &[u8],
+    first: Change,
+    out: &mut [u8],
+) -> Result<Option<usize>, Refusal>
     requires { FirstChange text.now policy.now first
         × (length (formatted_from (policy_of policy.now) text.now 0) ≤ length out.old) }
     ensures { record { answer = result; buffer = out.new }
@@ -186,12 +191,10 @@ fn format_at_once(text: &[u8], policy: &[u8], first: Change, out: &mut [u8]) -> 
     let second = next_change(text, policy, end);
     let valid_up_to = valid_after(text, second);
     if valid_up_to != text.len() {
-        return FormatAnswer::Refused(Refusal::NotWellFormed { valid_up_to });
+        return Err(Refusal::NotWellFormed { valid_up_to });
     }
     let to = put_change(text, 0, first, out, 0);
-    FormatAnswer::Changed {
-        len: put_changes(text, policy, end, second, out, to),
-    }
+    Ok(Some(put_changes(text, policy, end, second, out, to)))
 }
 
 // Whether a room is surely enough for the formatted text, by the length of the text, which is within the limit. Four times this length is
@@ -201,29 +204,21 @@ fn surely_fits(text: &[u8], policy: &[u8], room: usize) -> bool
     requires { length text.now ≤ text_limit }
     ensures { result ≡ true → length (formatted_from (policy_of policy.now) text.now 0) ≤ room }
 {
-    if text.len() <= room / MOST_TIMES {
-        return true;
-    }
-    if room < default_room(text.len()) {
-        return false;
-    }
-    ascii_keys_bare(policy)
+    text.len() <= room / MOST_TIMES || default_room(text.len()) <= room && ascii_keys_bare(policy)
 }
 
 // Formats a text: writes the formatted text at the front of the output, if it differs from the text and fits.
-pub fn format_text(text: &[u8], policy: &[u8], out: &mut [u8]) -> FormatAnswer
-    ensures { EndsAs format_row (format text.now policy.now out.old) result out.new }
+pub fn format_text(text: &[u8], policy: &[u8], out: &mut [u8]) -> Result<Option<usize>, Refusal>
+    ensures { EndsAs optional_row (format text.now policy.now out.old) result out.new }
 {
-    if let Check::Refused(refusal) = first_tests(text, policy) {
-        return FormatAnswer::Refused(refusal);
-    }
+    first_tests(text, policy)?;
     let first = next_change(text, policy, 0);
     let end = first.end;
     if !first.present {
         if end != text.len() {
-            return FormatAnswer::Refused(Refusal::NotWellFormed { valid_up_to: end });
+            return Err(Refusal::NotWellFormed { valid_up_to: end });
         }
-        return FormatAnswer::Unchanged;
+        return Ok(None);
     }
     if !surely_fits(text, policy, out.len()) {
         return format_measured(text, policy, first, out);
@@ -232,27 +227,25 @@ pub fn format_text(text: &[u8], policy: &[u8], out: &mut [u8]) -> FormatAnswer
 }
 
 // Gives the answer of formatting into an output of `room` bytes, and writes nothing.
-pub fn format_answer(text: &[u8], policy: &[u8], room: usize) -> FormatAnswer
+pub fn format_answer(text: &[u8], policy: &[u8], room: usize) -> Result<Option<usize>, Refusal>
     ensures { (out : List ℕ) → length out ≡ room → result ≡ (format text.now policy.now out).answer }
 {
-    if let Check::Refused(refusal) = first_tests(text, policy) {
-        return FormatAnswer::Refused(refusal);
-    }
+    first_tests(text, policy)?;
     let first = next_change(text, policy, 0);
     let Survey {
         valid_up_to,
         len: wanted,
     } = survey_text(text, policy, first);
     if valid_up_to != text.len() {
-        return FormatAnswer::Refused(Refusal::NotWellFormed { valid_up_to });
+        return Err(Refusal::NotWellFormed { valid_up_to });
     }
     if !first.present {
-        return FormatAnswer::Unchanged;
+        return Ok(None);
     }
     if room < wanted {
-        return FormatAnswer::Refused(Refusal::OutputTooShort { wanted });
+        return Err(Refusal::OutputTooShort { wanted });
     }
-    FormatAnswer::Changed { len: wanted }
+    Ok(Some(wanted))
 }
 
 // Whether the formatted text fits into a room. The caller knows the first change.
@@ -260,14 +253,7 @@ fn formatted_fits(text: &[u8], policy: &[u8], first: Change, room: usize) -> boo
     requires { (length text.now ≤ text_limit) × NextChange (policy_of policy.now) text.now 0 first }
     ensures { result ≡ leb (length (formatted_from (policy_of policy.now) text.now 0)) room }
 {
-    if text.len() <= room / MOST_TIMES {
-        return true;
-    }
-    let Survey {
-        valid_up_to: _,
-        len,
-    } = survey_text(text, policy, first);
-    len <= room
+    text.len() <= room / MOST_TIMES || survey_text(text, policy, first).len <= room
 }
 
 // Writes what formatting makes of a text's longest well-formed beginning at an offset of the output, and returns where it ends there. The

@@ -1,4 +1,5 @@
 -- The proof of the statement of specs/Walks.antt.
+use Rattle.std.specs.Prelude.{Some}
 use mathlib.Core.Path.{◌≡◌, refl, sym, subst}
 use mathlib.Core.Bool.{true≢false}
 use mathlib.Core.List.{List, [], ◌∷◌, Memᴰ}
@@ -10,7 +11,6 @@ use Rattle.scanner.specs.Structure.{structure}
 use Rattle.scanner.specs.Spans.{first_of, scan_at, scan_from, span_of, spans}
 use Rattle.scanner.specs.Theorems.{SpansOfItems, Structured}
 use Rattle.scanner.specs.declared.ScanItem.{ScanItem}
-use Rattle.scanner.specs.declared.ScanStep.TheVariants as Step
 use Rattle.scanner.proofs.Spans.{scan-spans_of_items, spans-first}
 use Rattle.scanner.proofs.Structure.{item-structure}
 use Rattle.item_parts.specs.Walks.{SequenceWalk, StructureIsWalked}
@@ -25,7 +25,7 @@ structure_is_walked text at before x e k = go (items (chars (drop at text))) ref
         × SequenceWalk text y.start y.end (structure t)
 
     go : (xs : List Item) → items (chars (drop at text)) ≡ xs → SpansOfItems text (spans at before xs) xs
-        → first_of (spans at before xs) ≡ Step.Item x
+        → first_of (spans at before xs) ≡ Some x
         → Walked x
     go [] p s q = absurd (true≢false (cc))
     go (y ∷ ys) p s q =

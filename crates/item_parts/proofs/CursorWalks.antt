@@ -1,4 +1,5 @@
 -- Calls of the functions that read tag runs and modifications, from the first modification of a unit to the unit's end.
+use Rattle.std.specs.Prelude.{Some, None}
 use mathlib.Core.Path.{◌≡◌, refl, ap, ap₂, sym, ◌∙◌, subst}
 use mathlib.Core.Bool.{true, false}
 use mathlib.Core.List.{List, [], ◌∷◌, ◌++◌, append_assoc}
@@ -46,7 +47,6 @@ use Rattle.scanner.proofs.Runs.{Passes, all_pass, pass-and, Stops, at_char, at_e
 use Rattle.item_parts.specs.Parts.{first_from, modification_from, modification_read, tag_run_from, tag_run_read}
 use Rattle.item_parts.specs.Walks.{ModificationsWalk, modification-and, modifications-end, RunsWalk, run_and, runs-end}
 use Rattle.item_parts.specs.declared.EmojiModification.TheVariants as Value
-use Rattle.item_parts.specs.declared.EmojiTagRun.TheVariants.{NoTags}
 use Rattle.item_parts.proofs.ModificationWalks.{no_tag_after, Mods, mods_end, mods_keycap, mods_modifier, mods_tags}
 use Rattle.item_parts.proofs.TagRuns.{of_selectors, of_tags}
 use Rattle.item_parts.proofs.UnitsAt.{tag_run_by}
@@ -68,20 +68,20 @@ no_selector_first : {t : List ℕ} → TagFirst t → Stops is_selector t
 no_selector_first (tag_first {c = c} e) = at_char (tag_no_selector c e)
 
 run-read : (at : ℕ) {u : List ℕ} → TagFirst u → tag_run_read at u
-    ≡ tag_run_from at (record { tags = run is_tag u; after = selectors_at (after_run is_tag u) })
+    ≡ Some (tag_run_from at (record { tags = run is_tag u; after = selectors_at (after_run is_tag u) }))
 run-read at (tag_first {c = c} {t = t} e) = tag_run_by at c t true e
 
-no_run-read : (at : ℕ) {t : List ℕ} → Stops is_tag t → tag_run_read at t ≡ NoTags
+no_run-read : (at : ℕ) {t : List ℕ} → Stops is_tag t → tag_run_read at t ≡ None
 unfolding tag_run_read
 no_run-read at at_end = refl
 no_run-read at (at_char {c = c} {s = t} e) = tag_run_by at c t false e
 
 -- The function reads tags and selectors before characters t.
 group_read : (at : ℕ) {g s t : List ℕ} → Tags g → S s → Stops is_tag (s ++ t) → Stops is_selector t
-    → tag_run_read at (g ++ (s ++ t)) ≡ tag_run_from at (record { tags = g; after = s })
+    → tag_run_read at (g ++ (s ++ t)) ≡ Some (tag_run_from at (record { tags = g; after = s }))
 group_read at {g} {s} {t} a b p q =
     run-read at (tags_first (s ++ t) a)
-    ∙ ap₂ (λ (x y : List ℕ). tag_run_from at (record { tags = x; after = y })) (run_all is_tag (all_tags a) p)
+    ∙ ap₂ (λ (x y : List ℕ). Some (tag_run_from at (record { tags = x; after = y }))) (run_all is_tag (all_tags a) p)
     (ap selectors_at (after_all is_tag (all_tags a) p) ∙ run_all is_selector (S_passes b) q)
 
 -- ---- the runs of a tag modification
@@ -145,7 +145,7 @@ module _ {c : ℕ} {k : Class} (h : HasClass c k) (s t : List ℕ) where
       (modification_test c ∙ ap is_modification_class (class_is h) ∙ f) ∙ ap (λ (l : List ℕ). c ∷ l) (run_all is_selector (S_passes a) p))
       (ap (λ (x : List ℕ × List EmojiModification). x.1) (of_class s h ∙ ap (to_modifications k c) (of_selectors (S_passes a))))
 
-none_read : (at : ℕ) {t : List ℕ} → Stops in_modifications t → modification_read at t ≡ Value.NoModification
+none_read : (at : ℕ) {t : List ℕ} → Stops in_modifications t → modification_read at t ≡ None
 unfolding modification_read modification_at modifications_of first_from
 none_read at at_end = refl
 none_read at (at_char {c = c} {s = t} e) = front_read at (c ∷ t)
@@ -167,16 +167,16 @@ unfolding flatten_runs
 groups_in (one_run a b) = pass_append (tags_in_lem a) (pass_append (selectors_in b) all_pass)
 groups_in (run_more {d = d} a e b g) = pass_append (tags_in_lem a) (pass_append (selectors_in (selector_and e b)) (groups_in g))
 
-tags_read : (at : ℕ) {u : List ℕ} → TagFirst u → modification_read at u ≡ Value.TagModifier (at + size width (tag_modification_at u))
+tags_read : (at : ℕ) {u : List ℕ} → TagFirst u → modification_read at u ≡ Some (Value.TagModifier (at + size width (tag_modification_at u)))
 unfolding first_from modification_from
 tags_read at (tag_first {c = c} {t = t} e) =
     let m = of_tags c t e in
-    front_read at (c ∷ t) (modification_tag c t e) m.is ∙ ap (λ (l : List ℕ). Value.TagModifier (at + size width l)) m.flat
+    front_read at (c ∷ t) (modification_tag c t e) m.is ∙ ap (λ (l : List ℕ). Some (Value.TagModifier (at + size width l))) m.flat
 
 groups_read : (at : ℕ) {rs : List EmojiTagRun} {t : List ℕ} → RunsOk rs → Stops in_tags t → modification_read at (flatten_runs rs ++ t)
-    ≡ modification_from at (TagModifier rs)
+    ≡ Some (modification_from at (TagModifier rs))
 unfolding modification_from tag_modification_at
-groups_read at {rs} {t} g p = tags_read at (groups_first t g) ∙ ap (λ (l : List ℕ). Value.TagModifier (at + size width l))
+groups_read at {rs} {t} g p = tags_read at (groups_first t g) ∙ ap (λ (l : List ℕ). Some (Value.TagModifier (at + size width l)))
     (run_all in_tags (groups_in g) p)
 
 -- ---- all modifications of a unit

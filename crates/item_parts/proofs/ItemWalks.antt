@@ -1,5 +1,6 @@
 -- Calls of the functions that read the parts of an item, from its start to its end: they give its structure, unit by unit and link
 -- by link.
+use Rattle.std.specs.Prelude.{Some}
 use mathlib.Core.Path.{◌≡◌, refl, ap, sym, ◌∙◌, subst}
 use mathlib.Core.Logic.{⊎_elim}
 use mathlib.Core.Bool.{Bool, true, false, cond, true≢false}
@@ -38,7 +39,6 @@ use Rattle.scanner.specs.Theorems.{Structured}
 use Rattle.item_parts.specs.Walks.{JoinsWalk, no-more-units, unit-and, LinksWalk, link_and, links_end, SequenceWalk}
 use Rattle.scanner.specs.declared.ScanKind.TheVariants.{EmojiHeaded}
 use Rattle.item_parts.specs.declared.SequencePart.TheVariants.{JoiningLink, LeftOverLink}
-use Rattle.item_parts.specs.declared.ZwjLink.TheVariants.{Link}
 use Rattle.scanner.proofs.Bytes.{chars-from, width_some}
 use Rattle.scanner.proofs.Classes.{emoji_no_selector}
 use Rattle.scanner.proofs.Reading.{derive_head, derive_inner, derives_alike, reading}
@@ -57,6 +57,7 @@ use Rattle.scanner.proofs.Structure.{
 }
 use Rattle.item_parts.proofs.UnitWalks.{Last, unit_walk}
 use Rattle.scanner.proofs.Units.{NoLink, no_link_and, unit_flatten, unit_no_link, unit_read_lem}
+use Rattle.item_parts.proofs.PartsAt.{a_link as link_value}
 use Rattle.item_parts.proofs.UnitsAt.{joins-is, part-last, part-past}
 use Rattle.scanner.proofs.Walk.{strip_selector}
 
@@ -67,9 +68,9 @@ module _ (text : List ℕ) (end at : ℕ) {s t : List ℕ} (h : S s) (p : Stops 
   the_link : ZwjLink
   the_link = record { after = s }
 
-  link_is : Link (link_from at the_link) ≡ link_read at (chars (drop at text))
+  link_is : link_value (link_from at the_link) ≡ link_read at (chars (drop at text))
   unfolding link_read link_from the_link
-  link_is = sym (ap (link_read at) e ∙ ap (λ (x : List ℕ). Link (selectors_from (at + width 0x200D) x))
+  link_is = sym (ap (link_read at) e ∙ ap (λ (x : List ℕ). link_value (selectors_from (at + width 0x200D) x))
       (run_all is_selector (S_passes h) p))
 
   link_end : (link_from at the_link).end ≡ at + size width (0x200D ∷ s)
@@ -81,10 +82,11 @@ module _ (text : List ℕ) (end at : ℕ) {s t : List ℕ} (h : S s) (p : Stops 
 
   -- A link is left over if no emoji follows it within the item.
   link_left_over : at < end → ((link_from at the_link).end < end → Stops is_emoji t)
-      → part_read text end at ≡ LeftOverLink (link_from at the_link)
+      → part_read text end at ≡ Some (LeftOverLink (link_from at the_link))
   unfolding joins
   link_left_over n q = ⊎_elim (λ k. sym (part-last text end at n link_is k))
-      (λ k. sym (joins-is text end at n link_is k) ∙ ap (joins (link_from at the_link)) link_after ∙ go (q k))
+      (λ k. sym (joins-is text end at n link_is k) ∙ ap (λ (l : List ℕ). Some (joins (link_from at the_link) l)) link_after
+      ∙ ap Some (go (q k)))
       (le_or_lt end (link_from at the_link).end)
     where
       go : {u : List ℕ} → Stops is_emoji u → joins (link_from at the_link) u ≡ LeftOverLink (link_from at the_link)
@@ -93,11 +95,11 @@ module _ (text : List ℕ) (end at : ℕ) {s t : List ℕ} (h : S s) (p : Stops 
 
   -- A link joins the emoji that follows it within the item.
   link_joins : {c : ℕ} {u : List ℕ} → at < end → (link_from at the_link).end < end → t ≡ c ∷ u → is_emoji c ≡ true → part_read text end at
-      ≡ JoiningLink (link_from at the_link)
+      ≡ Some (JoiningLink (link_from at the_link))
   unfolding joins
   link_joins n k q f =
-      sym (joins-is text end at n link_is k) ∙ ap (joins (link_from at the_link)) (link_after ∙ q)
-      ∙ ap (λ (b : Bool). cond b (JoiningLink (link_from at the_link)) (LeftOverLink (link_from at the_link))) f
+      sym (joins-is text end at n link_is k) ∙ ap (λ (l : List ℕ). Some (joins (link_from at the_link) l)) (link_after ∙ q)
+      ∙ ap (λ (b : Bool). Some (cond b (JoiningLink (link_from at the_link)) (LeftOverLink (link_from at the_link)))) f
 
 -- ---- the links left over
 

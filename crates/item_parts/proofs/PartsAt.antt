@@ -1,4 +1,5 @@
 -- The parts of an item at an offset, by the character there and its class: the laws that the consume functions use.
+use Rattle.std.specs.Prelude.{Some, None, Option}
 use mathlib.Core.Path.{◌≡◌, refl, ap, ap₂, sym, ◌∙◌, subst}
 use mathlib.Core.Bool.{Bool, true, false, cond}
 use mathlib.Core.List.{List, [], ◌∷◌}
@@ -30,15 +31,10 @@ use Rattle.scanner.specs.Spans.{size, width}
 use Rattle.scanner.specs.Structure as Structure
 use Rattle.scanner.specs.Structure.{emoji_like, link_of, modifications_of, ri_stem, to_modifications}
 use Rattle.scanner.specs.declared.char_runs.RunKind.TheVariants.{Modifications}
-use Rattle.item_parts.specs.declared.EmojiModification.TheVariants.{
-  EmojiModifier,
-  EnclosingKeycap,
-  NoModification,
-  TagModifier,
-}
+use Rattle.item_parts.specs.declared.EmojiModification.TheVariants.{EmojiModifier, EnclosingKeycap, TagModifier}
 use Rattle.item_parts.specs.declared.EmojiStem.{EmojiStem}
-use Rattle.item_parts.specs.declared.EmojiStem.TheVariants.{Flag, NoStem, SingletonBase}
-use Rattle.item_parts.specs.declared.ZwjLink.TheVariants.{Link, NoLink}
+use Rattle.item_parts.specs.declared.EmojiStem.TheVariants.{Flag, SingletonBase}
+use Rattle.item_parts.specs.declared.ZwjLink.{ZwjLink}
 use Rattle.scanner.specs.declared.selectors.PresentationSelectors.{PresentationSelectors}
 use Rattle.scanner.proofs.Bytes.{chars-from}
 use Rattle.scanner.proofs.Classes.{HasClass, has_class, is_keycap}
@@ -49,6 +45,10 @@ use Rattle.scanner.proofs.RunLaws.{modification_other, modification_tag}
 use Rattle.scanner.proofs.Runs.{run-after, run-passes}
 use Rattle.item_parts.proofs.TagRuns.{of_selectors, of_tags}
 
+-- The link with these selectors.
+abbrev pub a_link : PresentationSelectors → Option ZwjLink
+a_link s = Some (record { selectors = s })
+
 -- ---- where no character begins
 
 module _ {text : List ℕ} {at : ℕ} (h : Unseen text at) where
@@ -56,15 +56,15 @@ module _ {text : List ℕ} {at : ℕ} (h : Unseen text at) where
   unfolding modifications_at
   modifications_none = omega (arith, ap (λ (t : List ℕ). size width (modifications_at t)) h.chars_none)
 
-  pub link_none : NoLink ≡ link_read at (chars (drop at text))
+  pub link_none : None ≡ link_read at (chars (drop at text))
   unfolding link_read
   link_none = ap (link_read at) (sym h.chars_none)
 
-  pub modification_none : NoModification ≡ modification_read at (chars (drop at text))
+  pub modification_none : None ≡ modification_read at (chars (drop at text))
   unfolding modification_read modification_at modifications_of first_from
   modification_none = ap (modification_read at) (sym h.chars_none)
 
-  pub stem_none : NoStem ≡ stem_read at (chars (drop at text))
+  pub stem_none : None ≡ stem_read at (chars (drop at text))
   unfolding stem_read
   stem_none = ap (stem_read at) (sym h.chars_none)
 
@@ -105,22 +105,22 @@ module _ {text : List ℕ} {at v : ℕ} {k : Class} {next : ℕ} (h : Seen text 
   -- ---- a link
 
   link_by : (b : Bool) → is_link_class k ≡ b → link_read at (chars (drop at text))
-      ≡ cond b (Link (link_from at (link_of (chars (drop next text))))) NoLink
+      ≡ cond b (a_link (link_from at (link_of (chars (drop next text))))) None
   unfolding link_read
   link_by b e =
       ap (link_read at) h.chars_on
-      ∙ ap (λ (x : Bool). cond x (Link (link_from at (link_of (chars (drop next text))))) NoLink)
+      ∙ ap (λ (x : Bool). cond x (a_link (link_from at (link_of (chars (drop next text))))) None)
       (tested (λ c. eqb c 0x200D) is_link_class link_test e)
 
-  pub link_on : {r : PresentationSelectors} → k ≡ link → r ≡ selector_run text next → Link r ≡ link_read at (chars (drop at text))
+  pub link_on : {r : PresentationSelectors} → k ≡ link → r ≡ selector_run text next → a_link r ≡ link_read at (chars (drop at text))
   unfolding link_from
   link_on e r =
       let f : is_link_class k ≡ true = ap is_link_class e in
       let i : v ≡ 0x200D = eqb-true v 0x200D (tested (λ c. eqb c 0x200D) is_link_class link_test f) in
-      ap Link (selectors_after r ∙ ap (λ (c : ℕ). selectors_from (at + width c) (selectors_at (chars (drop next text)))) i)
+      ap a_link (selectors_after r ∙ ap (λ (c : ℕ). selectors_from (at + width c) (selectors_at (chars (drop next text)))) i)
       ∙ sym (link_by true f)
 
-  pub link_off : is_link_class k ≡ false → NoLink ≡ link_read at (chars (drop at text))
+  pub link_off : is_link_class k ≡ false → None ≡ link_read at (chars (drop at text))
   link_off e = sym (link_by false e)
 
   -- ---- a modification
@@ -144,36 +144,36 @@ module _ {text : List ℕ} {at v : ℕ} {k : Class} {next : ℕ} (h : Seen text 
       (of_class s (subst (HasClass v) (sym h.class) (has_class v))
       ∙ ap (to_modifications k v) (of_selectors (run-passes is_selector (chars (drop next text))))) ∙ q)
 
-  pub modifier_on : {r : PresentationSelectors} → k ≡ modifier → r ≡ selector_run text next → EmojiModifier v r
+  pub modifier_on : {r : PresentationSelectors} → k ≡ modifier → r ≡ selector_run text next → Some (EmojiModifier v r)
       ≡ modification_read at (chars (drop at text))
   unfolding to_modifications first_from modification_from
   modifier_on e r =
       let s = selectors_at (chars (drop next text)) in
-      ap (EmojiModifier v) (selectors_after r)
+      ap (λ (s : PresentationSelectors). Some (EmojiModifier v s)) (selectors_after r)
       ∙ one_modification (ap is_tag_class e) (ap is_modification_class e) (Structure.EmojiModifier v s ∷ [])
       (ap (λ (x : Class). (to_modifications x v (s, [])).1) e)
 
-  pub keycap-on : {r : PresentationSelectors} → k ≡ keycap → r ≡ selector_run text next → EnclosingKeycap r
+  pub keycap-on : {r : PresentationSelectors} → k ≡ keycap → r ≡ selector_run text next → Some (EnclosingKeycap r)
       ≡ modification_read at (chars (drop at text))
   unfolding to_modifications first_from modification_from
   keycap-on e r =
       let s = selectors_at (chars (drop next text)) in
       let i : v ≡ 0x20E3 = keycap_is (subst (HasClass v) (sym h.class ∙ e) (has_class v)) in
-      ap EnclosingKeycap (selectors_after r ∙ ap (λ (c : ℕ). selectors_from (at + width c) s) i)
+      ap (λ (s : PresentationSelectors). Some (EnclosingKeycap s)) (selectors_after r ∙ ap (λ (c : ℕ). selectors_from (at + width c) s) i)
       ∙ one_modification (ap is_tag_class e) (ap is_modification_class e) (Structure.EnclosingKeycap s ∷ [])
       (ap (λ (x : Class). (to_modifications x v (s, [])).1) e)
 
-  pub tags_on : {end : ℕ} → k ≡ tag → end ≡ at + size width (tag_modification_at (chars (drop at text))) → TagModifier end
+  pub tags_on : {end : ℕ} → k ≡ tag → end ≡ at + size width (tag_modification_at (chars (drop at text))) → Some (TagModifier end)
       ≡ modification_read at (chars (drop at text))
   unfolding first_from modification_from
   tags_on e r =
       let p = tested _ is_tag_class tag_test (ap is_tag_class e) in
       let m = of_tags v (chars (drop next text)) p in
-      ap TagModifier (r ∙ ap (λ (l : List ℕ). at + size width l) (ap tag_modification_at h.chars_on ∙ sym m.flat))
+      ap (λ (n : ℕ). Some (TagModifier n)) (r ∙ ap (λ (l : List ℕ). at + size width l) (ap tag_modification_at h.chars_on ∙ sym m.flat))
       ∙ modification_is (modification_tag v (chars (drop next text)) p) m.is
 
   pub modification_off : is_modification_class k ≡ false → is_tag_class k ≡ false
-      → NoModification ≡ modification_read at (chars (drop at text))
+      → None ≡ modification_read at (chars (drop at text))
   unfolding modifications_of first_from
   modification_off e f =
       modification_is (modification_other v (chars (drop next text)) false (tested _ is_tag_class tag_test f)
@@ -183,30 +183,30 @@ module _ {text : List ℕ} {at v : ℕ} {k : Class} {next : ℕ} (h : Seen text 
 
   stem_by_lem : (a b : Bool) → is_emoji_class k ≡ a → is_ri_class k ≡ b
       → stem_read at (chars (drop at text))
-      ≡ cond a (stem_after next (cond b (ri_stem v (selectors_at (chars (drop next text))) (after_selectors (chars (drop next text))))
-      (Structure.SingletonBase v (selectors_at (chars (drop next text)))))) NoStem
+      ≡ cond a (Some (stem_after next (cond b (ri_stem v (selectors_at (chars (drop next text))) (after_selectors (chars (drop next text))))
+      (Structure.SingletonBase v (selectors_at (chars (drop next text))))))) None
   unfolding stem_read emoji_like
   stem_by_lem a b e f =
       let t = chars (drop next text) in
       ap (stem_read at) h.chars_on
-      ∙ ap₂ (λ (x y : Bool). cond x (stem_after (at + width v)
-      (cond y (ri_stem v (selectors_at t) (after_selectors t)) (Structure.SingletonBase v (selectors_at t)))) NoStem)
+      ∙ ap₂ (λ (x y : Bool). cond x (Some (stem_after (at + width v)
+      (cond y (ri_stem v (selectors_at t) (after_selectors t)) (Structure.SingletonBase v (selectors_at t))))) None)
       (tested is_emoji is_emoji_class emoji_test e) (tested is_ri is_ri_class ri_test f)
-      ∙ ap (λ (n : ℕ). cond a (stem_after n
-      (cond b (ri_stem v (selectors_at t) (after_selectors t)) (Structure.SingletonBase v (selectors_at t)))) NoStem) (sym h.after)
+      ∙ ap (λ (n : ℕ). cond a (Some (stem_after n
+      (cond b (ri_stem v (selectors_at t) (after_selectors t)) (Structure.SingletonBase v (selectors_at t))))) None) (sym h.after)
 
   pub stem_ri : {r : EmojiStem} → k ≡ ri → r
       ≡ stem_after next (ri_stem v (selectors_at (chars (drop next text))) (after_selectors (chars (drop next text))))
-      → r ≡ stem_read at (chars (drop at text))
-  stem_ri e r = r ∙ sym (stem_by_lem true true (ap is_emoji_class e) (ap is_ri_class e))
+      → Some r ≡ stem_read at (chars (drop at text))
+  stem_ri e r = ap Some r ∙ sym (stem_by_lem true true (ap is_emoji_class e) (ap is_ri_class e))
 
   pub stem_on : {r : PresentationSelectors} → is_emoji_class k ≡ true → is_ri_class k ≡ false → r ≡ selector_run text next
-      → SingletonBase v r
+      → Some (SingletonBase v r)
       ≡ stem_read at (chars (drop at text))
   unfolding stem_after selector_run
-  stem_on e f r = ap (SingletonBase v) r ∙ sym (stem_by_lem true false e f)
+  stem_on e f r = ap (λ (s : PresentationSelectors). Some (SingletonBase v s)) r ∙ sym (stem_by_lem true false e f)
 
-  pub stem_off : is_emoji_class k ≡ false → NoStem ≡ stem_read at (chars (drop at text))
+  pub stem_off : is_emoji_class k ≡ false → None ≡ stem_read at (chars (drop at text))
   stem_off e = sym (stem_by_lem false (is_ri_class k) e refl)
 
 -- ---- the stem whose first character is an RI

@@ -1,5 +1,6 @@
 -- A unit before characters that cannot be added to it: the function that reads a unit at its offset returns the unit that
 -- `emoji_like` makes of its characters.
+use Rattle.std.specs.Prelude.{Some}
 use mathlib.Core.Path.{◌≡◌, refl, ap, ap₂, sym, ◌∙◌, subst}
 use mathlib.Core.Logic.{⊎_elim}
 use mathlib.Core.Bool.{Bool, true, ◌||◌}
@@ -45,7 +46,6 @@ use Rattle.scanner.specs.Structure.{
   modifications_of,
 }
 use Rattle.item_parts.specs.Walks.{UnitWalk}
-use Rattle.item_parts.specs.declared.EmojiStem.TheVariants as Value
 use Rattle.scanner.proofs.Bytes.{chars-from}
 use Rattle.scanner.proofs.Classes.{emoji_no_selector, ri_emoji}
 use Rattle.item_parts.proofs.CursorWalks.{modifications_walk}
@@ -66,7 +66,7 @@ use Rattle.scanner.proofs.Modifications.{
 use Rattle.scanner.proofs.Rescan.{size_append}
 use Rattle.scanner.proofs.Runs.{Passes, all_pass, pass-and, Stops, at_char, at_end, run_all}
 use Rattle.scanner.proofs.Units.{front_no_ri, front-stops, like_flag, like_of_lem, like_single, unit_read_lem}
-use Rattle.item_parts.proofs.UnitsAt.{no_stem, stem_emoji, stem_end_lem, unit_on}
+use Rattle.item_parts.proofs.UnitsAt.{some_stem, stem_emoji, stem_end_lem, unit_on}
 
 -- The first character of r cannot be added to the unit v, and it is no selector.
 pub record Last (v r : List ℕ) : Type 0 where
@@ -115,13 +115,14 @@ stops_append (at_char e) p = at_char e
 
 -- ---- the stem
 
-unit_stem : {v : List ℕ} (at : ℕ) (r : List ℕ) (d : EmojiUnit v) → Last v r → stem_read at (v ++ r) ≡ stem_from at (unit_read_lem d).stem
+unit_stem : {v : List ℕ} (at : ℕ) (r : List ℕ) (d : EmojiUnit v) → Last v r
+    → stem_read at (v ++ r) ≡ Some (stem_from at (unit_read_lem d).stem)
 unfolding stem_from unit_read_lem
 unit_stem at r (unit_of {m = m} (single {c = c} {s = s} e h) d) l =
     let front = modifications_front d in
     let p : Stops is_selector (m ++ r) = stops_append (front-stops front) (λ _. l.no_selector) in
     ap (λ (t : List ℕ). stem_read at (c ∷ t)) (append_assoc s m r) ∙ stem_emoji at c (s ++ (m ++ r)) true e
-    ∙ ap (λ (u : EmojiLike). stem_after (at + width c) u.stem)
+    ∙ ap (λ (u : EmojiLike). Some (stem_after (at + width c) u.stem))
     (like_of_lem c h p
     ∙ like_single c s (m ++ r) (is_ri c) refl
     (λ i. stops_append (front_no_ri front) (λ n. no_ri_after r i h (subst (λ (x : List ℕ). Last ((c ∷ s) ++ x) r) n l))))
@@ -130,15 +131,10 @@ unit_stem at r (unit_of {m = m} (flag {s = s} {t = t} a b e h f k) d) l =
     ap (λ (x : List ℕ). stem_read at (a ∷ x))
     (append_assoc (s ++ b ∷ t) m r ∙ append_assoc s (b ∷ t) (m ++ r))
     ∙ stem_emoji at a (s ++ b ∷ (t ++ (m ++ r))) true (ri_emoji a e)
-    ∙ ap (λ (u : EmojiLike). stem_after (at + width a) u.stem)
+    ∙ ap (λ (u : EmojiLike). Some (stem_after (at + width a) u.stem))
     (like_of_lem a h (at_char (emoji_no_selector b (ri_emoji b f))) ∙ like_flag a s b t (m ++ r) e f k p)
 
-from_some : (at : ℕ) (s : EmojiStem) → stem_from at s ≡ Value.NoStem → ⊥
-unfolding stem_from
-from_some at (SingletonBase c s) e = no_stem (at + width c) (SingletonBase c s) e
-from_some at (Flag a s b t) e = no_stem (at + width a) (Flag a s b t) e
-
-from_end : (at : ℕ) (s : EmojiStem) → at + size width (flatten_stem s) ≡ stem_end_lem at (stem_from at s)
+from_end : (at : ℕ) (s : EmojiStem) → at + size width (flatten_stem s) ≡ stem_end_lem at (Some (stem_from at s))
 unfolding stem_from stem_after flatten_stem
 from_end at (SingletonBase c s) = omega arith
 from_end at (Flag a s b t) = omega (arith, size_append width s (b ∷ t))
@@ -184,7 +180,7 @@ unit_walk {v} text at r d l e =
     ∙ ap (λ (y : List ℕ). size width (flatten_stem u.stem) + size width y) flat in
     let i = mods_read flow stops in
     subst (UnitWalk text at) (sym u.like) (record {
-      unit = sym (unit_on text at {m = stem_from at u.stem} (sym (ap (stem_read at) e ∙ unit_stem at r d l)) (from_some at u.stem)
+      unit = sym (unit_on text at {m = Some (stem_from at u.stem)} (sym (ap (stem_read at) e ∙ unit_stem at r d l)) some_stem
           (from_end at u.stem)
           (omega (arith, n, ap (λ (y : List ℕ). size width (modifications_at y)) on, ap (size width) all)));
       modifications = modifications_walk text (at + size width (flatten_unit x)) start i.mods

@@ -3,7 +3,7 @@
 -- The `..From` definitions turn a part of the structure (scanner, specs/Structure.antt) that begins at an offset into such a value. The
 -- `..Read` definitions say which part stands at the front of the characters from an offset on (document 01, "Item").
 -- Calls of these functions from an item's start to its end give the structure of the item: specs/Walks.antt, StructureIsWalked.
-use Rattle.std.specs.Prelude.{cond, List, [], ◌∷◌, ℕ, ◌+◌, eqb, leb, drop}
+use Rattle.std.specs.Prelude.{cond, List, [], ◌∷◌, ℕ, ◌+◌, eqb, leb, drop, Some, None, Option}
 use Rattle.utf8.specs.Rfc3629.{chars}
 use Rattle.emoji.specs.Unicode.{is_emoji, is_tag}
 use Rattle.scanner.specs.Runs.{after_run, after_selectors, modification_at, run, selectors_at, stem_at, unit_at}
@@ -14,26 +14,19 @@ use Rattle.scanner.specs.Structure.{emoji_like, flatten_runs, flatten_stem, flat
 use Rattle.scanner.specs.declared.selectors.PresentationSelectors.{PresentationSelectors}
 use Rattle.item_parts.specs.declared.EmojiLike.{EmojiLike}
 use Rattle.item_parts.specs.declared.EmojiModification.{EmojiModification}
-use Rattle.item_parts.specs.declared.EmojiModification.TheVariants.{
-  EmojiModifier,
-  EnclosingKeycap,
-  NoModification,
-  TagModifier,
-}
+use Rattle.item_parts.specs.declared.EmojiModification.TheVariants.{EmojiModifier, EnclosingKeycap, TagModifier}
 use Rattle.item_parts.specs.declared.EmojiStem.{EmojiStem}
-use Rattle.item_parts.specs.declared.EmojiStem.TheVariants.{Flag, NoStem, SingletonBase}
+use Rattle.item_parts.specs.declared.EmojiStem.TheVariants.{Flag, SingletonBase}
 use Rattle.item_parts.specs.declared.EmojiTagRun.{EmojiTagRun}
-use Rattle.item_parts.specs.declared.EmojiTagRun.TheVariants.{NoTags, Run}
 use Rattle.item_parts.specs.declared.SequencePart.{SequencePart}
-use Rattle.item_parts.specs.declared.SequencePart.TheVariants.{JoiningLink, LeftOverLink, NoPart}
+use Rattle.item_parts.specs.declared.SequencePart.TheVariants.{JoiningLink, LeftOverLink}
 use Rattle.item_parts.specs.declared.ZwjLink.{ZwjLink}
-use Rattle.item_parts.specs.declared.ZwjLink.TheVariants.{Link, NoLink}
 
 -- ---- a part of the structure that begins at an offset, as the code's value
 
 -- A run of tags and its selectors.
 unfoldable pub tag_run_from : ℕ → Structure.EmojiTagRun → EmojiTagRun
-tag_run_from at r = let end = at + size width r.tags in Run end (selectors_from end r.after)
+tag_run_from at r = let end = at + size width r.tags in record { tags_end = end; selectors = selectors_from end r.after }
 
 -- A modification.
 unfoldable pub modification_from : ℕ → Structure.EmojiModification → EmojiModification
@@ -51,10 +44,15 @@ unfoldable pub stem_from : ℕ → Structure.EmojiStem → EmojiStem
 stem_from at (Structure.SingletonBase c s) = stem_after (at + width c) (Structure.SingletonBase c s)
 stem_from at (Structure.Flag a s b t) = stem_after (at + width a) (Structure.Flag a s b t)
 
+-- The offset of a stem's end.
+abbrev pub stem_end : EmojiStem → ℕ
+stem_end (SingletonBase c s) = s.end
+stem_end (Flag a s b t) = t.end
+
 -- A unit.
 unfoldable pub unit_from : ℕ → Structure.EmojiLike → EmojiLike
 unit_from at u = record {
-  stem = stem_from at u.stem;
+  stem = Some (stem_from at u.stem);
   modifiers_start = at + size width (flatten_stem u.stem);
   end = at + size width (flatten_unit u);
 }
@@ -66,18 +64,18 @@ link_from at l = selectors_from (at + width 0x200D) l.after
 -- ---- the part that begins at an offset, by the characters from there on
 
 -- ".. one or more tags and S"
-unfoldable pub tag_run_read : ℕ → List ℕ → EmojiTagRun
-tag_run_read at [] = NoTags
+unfoldable pub tag_run_read : ℕ → List ℕ → Option EmojiTagRun
+tag_run_read at [] = None
 tag_run_read at (c ∷ t) =
-    cond (is_tag c) (tag_run_from at (record { tags = run is_tag (c ∷ t); after = selectors_at (after_run is_tag (c ∷ t)) })) NoTags
+    cond (is_tag c) (Some (tag_run_from at (record { tags = run is_tag (c ∷ t); after = selectors_at (after_run is_tag (c ∷ t)) }))) None
 
 -- The first modification of a list, as a value; the list begins at an offset.
-unfoldable pub first_from : ℕ → List Structure.EmojiModification → EmojiModification
-first_from at [] = NoModification
-first_from at (m ∷ ms) = modification_from at m
+unfoldable pub first_from : ℕ → List Structure.EmojiModification → Option EmojiModification
+first_from at [] = None
+first_from at (m ∷ ms) = Some (modification_from at m)
 
 -- "Modification: a modifier and S; 20E3 and S; or one or more groups of one or more tags and S."
-unfoldable pub modification_read : ℕ → List ℕ → EmojiModification
+unfoldable pub modification_read : ℕ → List ℕ → Option EmojiModification
 modification_read at t = first_from at (modifications_of (modification_at t)).1
 
 -- The stem whose first character is an RI, by the offset after this RI and the characters from there on: "RI, S, RI, S (a flag)".
@@ -85,13 +83,13 @@ abbrev pub ri_stem_read : ℕ → ℕ → List ℕ → EmojiStem
 ri_stem_read c at t = stem_after at (ri_stem c (selectors_at t) (after_selectors t))
 
 -- "Stem: RI, S, RI, S (a flag); otherwise one emoji and S."
-unfoldable pub stem_read : ℕ → List ℕ → EmojiStem
-stem_read at [] = NoStem
-stem_read at (c ∷ t) = cond (is_emoji c) (stem_after (at + width c) (emoji_like c t).stem) NoStem
+unfoldable pub stem_read : ℕ → List ℕ → Option EmojiStem
+stem_read at [] = None
+stem_read at (c ∷ t) = cond (is_emoji c) (Some (stem_after (at + width c) (emoji_like c t).stem)) None
 
 -- The value that says: no unit begins at this offset.
 abbrev pub no_unit : ℕ → EmojiLike
-no_unit at = record { stem = NoStem; modifiers_start = at; end = at }
+no_unit at = record { stem = None; modifiers_start = at; end = at }
 
 -- "Unit: a stem and its modifications."
 unfoldable pub unit_read : ℕ → List ℕ → EmojiLike
@@ -106,9 +104,9 @@ unit_read at (c ∷ t) =
     (no_unit at)
 
 -- ".. each 200D and S"
-unfoldable pub link_read : ℕ → List ℕ → ZwjLink
-link_read at [] = NoLink
-link_read at (c ∷ t) = cond (eqb c 0x200D) (Link (link_from at (link_of t))) NoLink
+unfoldable pub link_read : ℕ → List ℕ → Option ZwjLink
+link_read at [] = None
+link_read at (c ∷ t) = cond (eqb c 0x200D) (Some (record { selectors = link_from at (link_of t) })) None
 
 -- A link with these selectors, by the characters after them: it joins a unit if an emoji stands there, and is left over otherwise.
 unfoldable pub joins : PresentationSelectors → List ℕ → SequencePart
@@ -116,11 +114,12 @@ joins s [] = LeftOverLink s
 joins s (c ∷ t) = cond (is_emoji c) (JoiningLink s) (LeftOverLink s)
 
 -- A link of an item that ends at the offset `end`. It joins nothing after the item's end.
-unfoldable pub link_part : List ℕ → ℕ → ZwjLink → SequencePart
-link_part text end NoLink = NoPart
-link_part text end (Link s) = cond (leb end s.end) (LeftOverLink s) (joins s (chars (drop s.end text)))
+unfoldable pub link_part : List ℕ → ℕ → Option ZwjLink → Option SequencePart
+link_part text end None = None
+link_part text end (Some l) =
+    Some (cond (leb end l.selectors.end) (LeftOverLink l.selectors) (joins l.selectors (chars (drop l.selectors.end text))))
 
 -- ".. further units each joined by exactly one link, then the links left over": the part at an offset of an item that ends at
 -- `end`.
-unfoldable pub part_read : List ℕ → ℕ → ℕ → SequencePart
-part_read text end at = cond (leb end at) NoPart (link_part text end (link_read at (chars (drop at text))))
+unfoldable pub part_read : List ℕ → ℕ → ℕ → Option SequencePart
+part_read text end at = cond (leb end at) None (link_part text end (link_read at (chars (drop at text))))

@@ -1,7 +1,7 @@
 -- Contracts of helper functions: the functions of src/lib.rt, called from an item's start to its end, give the structure of the
 -- item (StructureIsWalked, proved in proofs/Claims.antt). At each offset a function returns the next part of the structure as a
 -- value (specs/Parts.antt), and the next offset is the end of that part's characters.
-use Rattle.std.specs.Prelude.{◌≡◌, List, [], ◌∷◌, ◌++◌, ℕ, ◌+◌, ◌-◌, take, drop}
+use Rattle.std.specs.Prelude.{◌≡◌, List, [], ◌∷◌, ◌++◌, ℕ, ◌+◌, ◌-◌, take, drop, Some, None}
 use Rattle.utf8.specs.Rfc3629.{chars, encode_all}
 use Rattle.positions.specs.declared.TextCount.{TextCount}
 use Rattle.item_parts.specs.Parts.{
@@ -36,18 +36,15 @@ use Rattle.scanner.specs.Structure.{
 }
 use Rattle.scanner.specs.Theorems.{Structured}
 use Rattle.scanner.specs.declared.ScanItem.{ScanItem}
-use Rattle.scanner.specs.declared.ScanStep.TheVariants as Step
-use Rattle.item_parts.specs.declared.EmojiModification.TheVariants.{NoModification}
-use Rattle.item_parts.specs.declared.EmojiTagRun.TheVariants.{NoTags}
-use Rattle.item_parts.specs.declared.SequencePart.TheVariants.{JoiningLink, LeftOverLink, NoPart}
+use Rattle.item_parts.specs.declared.SequencePart.TheVariants.{JoiningLink, LeftOverLink}
 
 module _ (text : List ℕ) where
   module _ (end : ℕ) where
     -- The calls return the tag runs of the list, one after the other, up to the offset `end`, and then no further one.
     pub data RunsWalk : ℕ → List EmojiTagRun → Type 0 where
-      runs-end : {at : ℕ} → at ≡ end → tag_run_read at (chars (drop at text)) ≡ NoTags → RunsWalk at []
+      runs-end : {at : ℕ} → at ≡ end → tag_run_read at (chars (drop at text)) ≡ None → RunsWalk at []
       run_and :
-          {at : ℕ} {r : EmojiTagRun} {rs : List EmojiTagRun} → tag_run_read at (chars (drop at text)) ≡ tag_run_from at r
+          {at : ℕ} {r : EmojiTagRun} {rs : List EmojiTagRun} → tag_run_read at (chars (drop at text)) ≡ Some (tag_run_from at r)
           → RunsWalk (at + size width (r.tags ++ r.after)) rs → RunsWalk at (r ∷ rs)
 
   -- If the modification is a tag modification, the calls return its tag runs.
@@ -59,10 +56,10 @@ module _ (text : List ℕ) where
   module _ (end : ℕ) where
     -- The calls return the modifications of the list, one after the other, up to the offset `end`, and then no further one.
     pub data ModificationsWalk : ℕ → List EmojiModification → Type 0 where
-      modifications-end : {at : ℕ} → at ≡ end → modification_read at (chars (drop at text)) ≡ NoModification → ModificationsWalk at []
+      modifications-end : {at : ℕ} → at ≡ end → modification_read at (chars (drop at text)) ≡ None → ModificationsWalk at []
       modification-and :
           {at : ℕ} {m : EmojiModification} {ms : List EmojiModification} → modification_read at (chars (drop at text))
-          ≡ modification_from at m → TagsWalk at m
+          ≡ Some (modification_from at m) → TagsWalk at m
           → ModificationsWalk (at + size width (flatten_modification m)) ms → ModificationsWalk at (m ∷ ms)
 
   -- The calls return the unit at an offset, and its modifications from the end of its stem on.
@@ -73,9 +70,9 @@ module _ (text : List ℕ) where
   module _ (end : ℕ) where
     -- The calls return the links left over of the list, one after the other, up to the item's end, and then no further one.
     pub data LinksWalk : ℕ → List ZwjLink → Type 0 where
-      links_end : {at : ℕ} → at ≡ end → part_read text end at ≡ NoPart → LinksWalk at []
+      links_end : {at : ℕ} → at ≡ end → part_read text end at ≡ None → LinksWalk at []
       link_and :
-          {at : ℕ} {l : ZwjLink} {ls : List ZwjLink} → part_read text end at ≡ LeftOverLink (link_from at l)
+          {at : ℕ} {l : ZwjLink} {ls : List ZwjLink} → part_read text end at ≡ Some (LeftOverLink (link_from at l))
           → LinksWalk (at + size width (flatten_link l)) ls → LinksWalk at (l ∷ ls)
 
     -- The calls return further units, each after its link, and then the links left over.
@@ -83,7 +80,7 @@ module _ (text : List ℕ) where
       no-more-units : {at : ℕ} {ls : List ZwjLink} → LinksWalk at ls → JoinsWalk at [] ls
       unit-and :
           {at : ℕ} {j : ZwjJoinedEmoji} {js : List ZwjJoinedEmoji} {ls : List ZwjLink} → part_read text end at
-          ≡ JoiningLink (link_from at j.link)
+          ≡ Some (JoiningLink (link_from at j.link))
           → UnitWalk (at + size width (flatten_link j.link)) j.emoji
           → JoinsWalk (at + size width (flatten_link j.link ++ flatten_unit j.emoji)) js ls → JoinsWalk at (j ∷ js) ls
 
@@ -96,5 +93,5 @@ module _ (text : List ℕ) where
 -- its start to its end.
 unfoldable pub StructureIsWalked : Type 0
 StructureIsWalked =
-    (text : List ℕ) (at : ℕ) (before : TextCount) (x : ScanItem) → scan_at text at before ≡ Step.Item x → Structured x.kind
+    (text : List ℕ) (at : ℕ) (before : TextCount) (x : ScanItem) → scan_at text at before ≡ Some x → Structured x.kind
     → (t : List ℕ) × (take (x.end - x.start) (drop x.start text) ≡ encode_all t) × SequenceWalk text x.start x.end (structure t)

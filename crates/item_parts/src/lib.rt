@@ -10,25 +10,23 @@ ghost use Rattle.std.specs.Prelude.{◌≡◌, ◌+◌, drop};
 ghost use Rattle.utf8.specs.Rfc3629.{chars};
 ghost use Rattle.scanner.specs.Runs.{modifications_at};
 ghost use Rattle.scanner.specs.Spans.{size, width};
-ghost use Rattle.item_parts.specs.Parts.{link_read, modification_read, part_read, ri_stem_read, stem_read, tag_run_read, unit_read};
+ghost use Rattle.item_parts.specs.Parts.{link_read, modification_read, part_read, ri_stem_read, stem_end, stem_read};
+ghost use Rattle.item_parts.specs.Parts.{tag_run_read, unit_read};
 
-use item_scanner::consume::{TagModification, consume_emoji_tag_runs};
-use scanner::char_class::{Class, Peeked, peek};
+use item_scanner::consume::consume_emoji_tag_runs;
+use scanner::char_class::{Class, peek};
 use scanner::char_runs::{RunKind, run_end};
 use scanner::selectors::{PresentationSelectors, consume_presentation_selectors};
 
 // One or more tags, up to the offset tags_end, and the selectors after them.
-#[derive(Clone, Copy)]
-pub enum EmojiTagRun {
-    Run {
-        tags_end: usize,
-        selectors: PresentationSelectors,
-    },
-    NoTags,
+#[derive(Clone, Copy, Debug, PartialEq, Eq)]
+pub struct EmojiTagRun {
+    pub tags_end: usize,
+    pub selectors: PresentationSelectors,
 }
 
 // A modification of a stem. `consume_emoji_tag_run` reads the runs of a tag modification, from its start up to its end.
-#[derive(Clone, Copy)]
+#[derive(Clone, Copy, Debug, PartialEq, Eq)]
 pub enum EmojiModification {
     EmojiModifier {
         modifier: u32,
@@ -40,11 +38,10 @@ pub enum EmojiModification {
     TagModifier {
         end: usize,
     },
-    NoModification,
 }
 
 // The stem of a unit: one emoji, or the two regional indicators of a flag, each with its selectors.
-#[derive(Clone, Copy)]
+#[derive(Clone, Copy, Debug, PartialEq, Eq)]
 pub enum EmojiStem {
     SingletonBase {
         base: u32,
@@ -56,94 +53,95 @@ pub enum EmojiStem {
         second_ri: u32,
         after_second_ri: PresentationSelectors,
     },
-    NoStem,
+}
+
+impl EmojiStem {
+    // The offset of the stem's end.
+    fn end(self) -> usize
+        ensures { result ≡ stem_end self }
+    {
+        match self {
+            EmojiStem::SingletonBase { selectors, .. } => selectors.end,
+            EmojiStem::Flag {
+                after_second_ri,
+                ..
+            } => after_second_ri.end,
+        }
+    }
 }
 
 // A unit: its stem, and its modifications from modifiers_start up to end. `consume_emoji_modification` reads these.
-#[derive(Clone, Copy)]
+#[derive(Clone, Copy, Debug, PartialEq, Eq)]
 pub struct EmojiLike {
-    pub stem: EmojiStem,
+    pub stem: Option<EmojiStem>,
     pub modifiers_start: usize,
     pub end: usize,
 }
 
 // A link: 200D, with the selectors after it.
-#[derive(Clone, Copy)]
-pub enum ZwjLink {
-    Link { selectors: PresentationSelectors },
-    NoLink,
+#[derive(Clone, Copy, Debug, PartialEq, Eq)]
+pub struct ZwjLink {
+    pub selectors: PresentationSelectors,
 }
 
-// The part after a unit, or in an item of links: a link that joins the unit after its selectors, a link left over, or no part.
-#[derive(Clone, Copy)]
+// The part after a unit, or in an item of links: a link that joins the unit after its selectors, or a link left over.
+#[derive(Clone, Copy, Debug, PartialEq, Eq)]
 pub enum SequencePart {
     JoiningLink(PresentationSelectors),
     LeftOverLink(PresentationSelectors),
-    NoPart,
 }
 
 // The run of tags at an offset, with its selectors.
-pub fn consume_emoji_tag_run(text: &[u8], at: usize) -> EmojiTagRun
+pub fn consume_emoji_tag_run(text: &[u8], at: usize) -> Option<EmojiTagRun>
     ensures { result ≡ tag_run_read at (chars (drop at text.now)) }
 {
     let tags_end = run_end(text, at, RunKind::Tags);
     if tags_end == at {
-        return EmojiTagRun::NoTags;
+        return None;
     }
     let selectors = consume_presentation_selectors(text, tags_end);
-    EmojiTagRun::Run {
+    Some(EmojiTagRun {
         tags_end,
         selectors,
-    }
+    })
 }
 
 // The link at an offset, if 200D stands there.
-pub fn consume_zwj_link(text: &[u8], at: usize) -> ZwjLink
+pub fn consume_zwj_link(text: &[u8], at: usize) -> Option<ZwjLink>
     ensures { result ≡ link_read at (chars (drop at text.now)) }
 {
-    match peek(text, at) {
-        Peeked::Char {
-            value: _,
-            class,
-            end,
-        } => match class {
-            Class::Link => {
-                let selectors = consume_presentation_selectors(text, end);
-                ZwjLink::Link { selectors }
-            }
-            _ => ZwjLink::NoLink,
-        },
-        Peeked::NoChar => ZwjLink::NoLink,
+    let first = peek(text, at)?;
+    match first.class {
+        Class::Link => {
+            let selectors = consume_presentation_selectors(text, first.end);
+            Some(ZwjLink { selectors })
+        }
+        _ => None,
     }
 }
 
 // The modification that begins at an offset, if one does.
-pub fn consume_emoji_modification(text: &[u8], at: usize) -> EmojiModification
+pub fn consume_emoji_modification(text: &[u8], at: usize) -> Option<EmojiModification>
     ensures { result ≡ modification_read at (chars (drop at text.now)) }
 {
-    match peek(text, at) {
-        Peeked::Char { value, class, end } => match class {
-            Class::Modifier => {
-                let selectors = consume_presentation_selectors(text, end);
-                EmojiModification::EmojiModifier {
-                    modifier: value,
-                    selectors,
-                }
-            }
-            Class::Keycap => {
-                let selectors = consume_presentation_selectors(text, end);
-                EmojiModification::EnclosingKeycap { selectors }
-            }
-            Class::Tag => {
-                let TagModification {
-                    end: tags_end,
-                    complete: _,
-                } = consume_emoji_tag_runs(text, at);
-                EmojiModification::TagModifier { end: tags_end }
-            }
-            _ => EmojiModification::NoModification,
-        },
-        Peeked::NoChar => EmojiModification::NoModification,
+    let first = peek(text, at)?;
+    match first.class {
+        Class::Modifier => {
+            let selectors = consume_presentation_selectors(text, first.end);
+            Some(EmojiModification::EmojiModifier {
+                modifier: first.value,
+                selectors,
+            })
+        }
+        Class::Keycap => {
+            let selectors = consume_presentation_selectors(text, first.end);
+            Some(EmojiModification::EnclosingKeycap { selectors })
+        }
+        Class::Tag => {
+            let tags = consume_emoji_tag_runs(text, at);
+            Some(EmojiModification::TagModifier { end: tags.end })
+        }
+        _ => None,
     }
 }
 
@@ -153,46 +151,42 @@ pub fn consume_regional_indicator_stem(text: &[u8], at: usize, first_ri: u32) ->
     ensures { result ≡ ri_stem_read first_ri at (chars (drop at text.now)) }
 {
     let after_first_ri = consume_presentation_selectors(text, at);
-    match peek(text, after_first_ri.end) {
-        Peeked::Char { value, class, end } => match class {
-            Class::Ri => {
-                let after_second_ri = consume_presentation_selectors(text, end);
-                EmojiStem::Flag {
-                    first_ri,
-                    after_first_ri,
-                    second_ri: value,
-                    after_second_ri,
-                }
+    let alone = EmojiStem::SingletonBase {
+        base: first_ri,
+        selectors: after_first_ri,
+    };
+    let Some(second) = peek(text, after_first_ri.end) else {
+        return alone;
+    };
+    match second.class {
+        Class::Ri => {
+            let after_second_ri = consume_presentation_selectors(text, second.end);
+            EmojiStem::Flag {
+                first_ri,
+                after_first_ri,
+                second_ri: second.value,
+                after_second_ri,
             }
-            _ => EmojiStem::SingletonBase {
-                base: first_ri,
-                selectors: after_first_ri,
-            },
-        },
-        Peeked::NoChar => EmojiStem::SingletonBase {
-            base: first_ri,
-            selectors: after_first_ri,
-        },
+        }
+        _ => alone,
     }
 }
 
 // The stem that begins at an offset, if one does.
-pub fn consume_emoji_stem(text: &[u8], at: usize) -> EmojiStem
+pub fn consume_emoji_stem(text: &[u8], at: usize) -> Option<EmojiStem>
     ensures { result ≡ stem_read at (chars (drop at text.now)) }
 {
-    match peek(text, at) {
-        Peeked::Char { value, class, end } => match class {
-            Class::Ri => consume_regional_indicator_stem(text, end, value),
-            Class::Modifier | Class::Emoji => {
-                let selectors = consume_presentation_selectors(text, end);
-                EmojiStem::SingletonBase {
-                    base: value,
-                    selectors,
-                }
-            }
-            _ => EmojiStem::NoStem,
-        },
-        Peeked::NoChar => EmojiStem::NoStem,
+    let first = peek(text, at)?;
+    match first.class {
+        Class::Ri => Some(consume_regional_indicator_stem(text, first.end, first.value)),
+        Class::Modifier | Class::Emoji => {
+            let selectors = consume_presentation_selectors(text, first.end);
+            Some(EmojiStem::SingletonBase {
+                base: first.value,
+                selectors,
+            })
+        }
+        _ => None,
     }
 }
 
@@ -200,20 +194,12 @@ pub fn consume_emoji_stem(text: &[u8], at: usize) -> EmojiStem
 pub fn consume_emoji_modifications(text: &[u8], at: usize) -> usize
     ensures { result ≡ at + size width (modifications_at (chars (drop at text.now))) }
 {
-    match peek(text, at) {
-        Peeked::Char {
-            value: _,
-            class,
-            end: _,
-        } => match class {
-            Class::Modifier | Class::Keycap | Class::Tag => run_end(
-                text,
-                at,
-                RunKind::Modifications,
-            ),
-            _ => at,
-        },
-        Peeked::NoChar => at,
+    let Some(first) = peek(text, at) else {
+        return at;
+    };
+    match first.class {
+        Class::Modifier | Class::Keycap | Class::Tag => run_end(text, at, RunKind::Modifications),
+        _ => at,
     }
 }
 
@@ -221,65 +207,39 @@ pub fn consume_emoji_modifications(text: &[u8], at: usize) -> usize
 pub fn consume_emoji_like(text: &[u8], at: usize) -> EmojiLike
     ensures { result ≡ unit_read at (chars (drop at text.now)) }
 {
-    let stem = consume_emoji_stem(text, at);
-    match stem {
-        EmojiStem::SingletonBase { base: _, selectors } => {
-            let modifiers_start = selectors.end;
-            let end = consume_emoji_modifications(text, modifiers_start);
-            EmojiLike {
-                stem,
-                modifiers_start,
-                end,
-            }
-        }
-        EmojiStem::Flag {
-            first_ri: _,
-            after_first_ri: _,
-            second_ri: _,
-            after_second_ri,
-        } => {
-            let modifiers_start = after_second_ri.end;
-            let end = consume_emoji_modifications(text, modifiers_start);
-            EmojiLike {
-                stem,
-                modifiers_start,
-                end,
-            }
-        }
-        EmojiStem::NoStem => EmojiLike {
-            stem,
+    let Some(stem) = consume_emoji_stem(text, at) else {
+        return EmojiLike {
+            stem: None,
             modifiers_start: at,
             end: at,
-        },
+        };
+    };
+    let modifiers_start = stem.end();
+    let end = consume_emoji_modifications(text, modifiers_start);
+    EmojiLike {
+        stem: Some(stem),
+        modifiers_start,
+        end,
     }
 }
 
 // The part at an offset of an item that ends at item_end. A link joins no unit after the item's end.
-pub fn consume_sequence_part(text: &[u8], at: usize, item_end: usize) -> SequencePart
+pub fn consume_sequence_part(text: &[u8], at: usize, item_end: usize) -> Option<SequencePart>
     ensures { result ≡ part_read text.now item_end at }
 {
     if item_end <= at {
-        return SequencePart::NoPart;
+        return None;
     }
-    match consume_zwj_link(text, at) {
-        ZwjLink::Link { selectors } => {
-            if item_end <= selectors.end {
-                return SequencePart::LeftOverLink(selectors);
-            }
-            match peek(text, selectors.end) {
-                Peeked::Char {
-                    value: _,
-                    class,
-                    end: _,
-                } => match class {
-                    Class::Ri | Class::Modifier | Class::Emoji => SequencePart::JoiningLink(
-                        selectors,
-                    ),
-                    _ => SequencePart::LeftOverLink(selectors),
-                },
-                Peeked::NoChar => SequencePart::LeftOverLink(selectors),
-            }
-        }
-        ZwjLink::NoLink => SequencePart::NoPart,
+    let ZwjLink { selectors } = consume_zwj_link(text, at)?;
+    let left_over = Some(SequencePart::LeftOverLink(selectors));
+    if item_end <= selectors.end {
+        return left_over;
+    }
+    let Some(next) = peek(text, selectors.end) else {
+        return left_over;
+    };
+    match next.class {
+        Class::Ri | Class::Modifier | Class::Emoji => Some(SequencePart::JoiningLink(selectors)),
+        _ => left_over,
     }
 }

@@ -1,9 +1,9 @@
 -- The laws that the loop of `next_item` uses: the rest of an item from a byte offset on, character by character, and the item at an
 -- offset.
+use Rattle.std.specs.Prelude.{Some, None, Option}
 use mathlib.Core.Path.{◌≡◌, refl, ap, ap₂, sym, ◌∙◌, subst}
 use mathlib.Core.Logic.{⊎_elim}
 use mathlib.Core.Bool.{Bool, true, false, ◌&&◌, and_assoc, and-true}
-use mathlib.Core.Option.{Option, none, some}
 use mathlib.Core.List.{List, [], ◌∷◌, ◌++◌}
 use Prim.Native.Nat.{ℕ, ◌+◌, ◌<◌}
 use native.Mathlib.Omega.{arith}
@@ -24,8 +24,6 @@ use Rattle.scanner.specs.Runs.{after_run, in_tags, run, tag_modification_at}
 use Rattle.scanner.specs.Spans.{count_after, first_of, rest_at, scan_at, scan_from, size, spans, width}
 use Rattle.scanner.specs.Tags.{all_complete, tag_modifications, tags_complete_of}
 use Rattle.scanner.specs.declared.ScanKind.{ScanKind}
-use Rattle.scanner.specs.declared.ScanStep.TheVariants as Answer
-use Rattle.scanner.specs.declared.state.Next.TheVariants as Next
 use Rattle.scanner.specs.declared.ScanItem.{ScanItem}
 use Rattle.scanner.proofs.Bytes.{chars-from}
 use Rattle.scanner.proofs.Classes.{class_is, is_selector_lem, is_tag_lem}
@@ -48,26 +46,26 @@ unfolding split_from
 rest-none p h = ap (λ (l : List ℕ). (split_from p l).0) h.chars_none
 
 module _ {text : List ℕ} {at v : ℕ} {k : Class} {next : ℕ} (h : Seen text at v k next) (p : State) where
-  pub rest-on : (q : State) → next_of (transition p k) ≡ Next.On q → rest_at text at p ≡ v ∷ rest_at text next q
+  pub rest-on : (q : State) → next_of (transition p k) ≡ Some q → rest_at text at p ≡ v ∷ rest_at text next q
   rest-on q e =
       ap (λ (l : List ℕ). (split_from p l).0) h.chars_on
       ∙ ap (λ (r : List ℕ × List Item). r.0)
       (split_from-some p q v (chars (drop next text)) (ap (transition p) (sym h.class) ∙ next-on (transition p k) q e))
 
-  pub rest-ends : next_of (transition p k) ≡ Next.Stop → rest_at text at p ≡ []
+  pub rest-ends : next_of (transition p k) ≡ None → rest_at text at p ≡ []
   rest-ends e =
       ap (λ (l : List ℕ). (split_from p l).0) h.chars_on
       ∙ ap (λ (r : List ℕ × List Item). r.0)
       (split_from-none p v (chars (drop next text)) (ap (transition p) (sym h.class) ∙ next_stop (transition p k) e))
 
   -- The rest from the next character on has the same end.
-  width-on : (q : State) → next_of (transition p k) ≡ Next.On q
+  width-on : (q : State) → next_of (transition p k) ≡ Some q
       → at + size width (rest_at text at p) ≡ next + size width (rest_at text next q)
   width-on q e = omega (arith, h.after, ap (size width) (rest-on q e))
 
 -- ---- a tag modification in the rest of an item
 
-tags_stay : (c : ℕ) → in_tags c ≡ true → transition unit (class_of c) ≡ some unit
+tags_stay : (c : ℕ) → in_tags c ≡ true → transition unit (class_of c) ≡ Some unit
 unfolding transition
 tags_stay c e = ⊎_elim (λ t. ap (transition unit) (class_is (is_tag_lem t))) (λ t. ap (transition unit) (class_is (is_selector_lem t)))
     (either_true (is_tag c) (is_selector c) e)
@@ -78,11 +76,11 @@ split_from-stops f p at_end = at_end
 split_from-stops f p (at_char {c = c} {s = t} e) = go (transition p (class_of c)) refl
   where
     go : (o : Option State) → transition p (class_of c) ≡ o → Stops f (split_from p (c ∷ t)).0
-    go (some q) g = rw (split_from-some p q c t g) (at_char e)
-    go none g = rw (split_from-none p c t g) at_end
+    go (Some q) g = rw (split_from-some p q c t g) (at_char e)
+    go None g = rw (split_from-none p c t g) at_end
 
 -- If a tag leads to the state `unit`, the rest is the tag modification there and the rest after it.
-module _ {text : List ℕ} {at v next : ℕ} (h : Seen text at v tag next) (p : State) (e : next_of (transition p tag) ≡ Next.On unit) where
+module _ {text : List ℕ} {at v next : ℕ} (h : Seen text at v tag next) (p : State) (e : next_of (transition p tag) ≡ Some unit) where
   abbrev t : List ℕ
   t = chars (drop at text)
 
@@ -123,11 +121,8 @@ pub record Reading (text : List ℕ) (from : ℕ) (first : State) (at : ℕ) (p 
   pub end_same : from + size width (rest_at text from first) ≡ at + size width (rest_at text at p)
   pub tags_same : tags_complete_of (kind_of first) (rest_at text from first) ≡ (b && tags_complete_of (kind_of p) (rest_at text at p))
 
-pub reading_begin : (text : List ℕ) (from : ℕ) (first : State) → Reading text from first from first true
-reading_begin text from first = record { end_same = refl; tags_same = refl }
-
 module _ {text : List ℕ} {from at : ℕ} {first p : State} {b : Bool} (l : Reading text from first at p b) where
-  module _ {v : ℕ} {k : Class} {next : ℕ} (h : Seen text at v k next) (q : State) (e : next_of (transition p k) ≡ Next.On q) where
+  module _ {v : ℕ} {k : Class} {next : ℕ} (h : Seen text at v k next) (q : State) (e : next_of (transition p k) ≡ Some q) where
     -- A turn that reads one character with which no tag modification begins.
     pub reading-on : begins_tags q k ≡ false → Reading text from first next q b
     reading-on n = record {
@@ -146,8 +141,8 @@ module _ {text : List ℕ} {from at : ℕ} {first p : State} {b : Bool} (l : Rea
     reading-tags {c} {end} n f g =
         let z = tag_begins q k n in
         let s = subst (λ (x : Class). Seen text at v x next) z.0 h in
-        let r : next_of (transition p tag) ≡ Next.On unit = ap (λ (x : Class). next_of (transition p x)) (sym z.0) ∙ e
-        ∙ ap Next.On z.1 in
+        let r : next_of (transition p tag) ≡ Some unit = ap (λ (x : Class). next_of (transition p x)) (sym z.0) ∙ e
+        ∙ ap Some z.1 in
         rw z.1 (
           omega (arith, f, tags_go_on s p r),
           record {
@@ -183,7 +178,7 @@ span_at at e k b before after = record {
   unit_end = after.units;
 }
 
-pub cursor_end : {text : List ℕ} {at : ℕ} (before : TextCount) → Unseen text at → scan_at text at before ≡ Answer.End
+pub cursor_end : {text : List ℕ} {at : ℕ} (before : TextCount) → Unseen text at → scan_at text at before ≡ None
 unfolding scan_at scan_from first_of spans items
 cursor_end {text} {at} before h = ap (λ (l : List ℕ). first_of (spans at before (items l))) h.chars_none
 
@@ -192,7 +187,7 @@ cursor_end {text} {at} before h = ap (λ (l : List ℕ). first_of (spans at befo
 pub cursor_item : {text : List ℕ} {at v : ℕ} {c : Class} {next : ℕ} → Seen text at v c next → (p : State) (e : ℕ) (b : Bool) (k : ScanKind)
     (before m n : TextCount) → p ≡ start_state c → e ≡ next + size width (rest_at text next p)
     → b ≡ tags_complete_of (kind_of p) (rest_at text next p) → k ≡ kind_of p → m ≡ count_between text at e → n ≡ capped_plus before m
-    → Answer.Item (span_at at e k b before n) ≡ scan_at text at before
+    → Some (span_at at e k b before n) ≡ scan_at text at before
 unfolding scan_at scan_from first_of spans items
 cursor_item {text} {at} {v} {c} {next} h p e b k before m n hp he hb hk hm hn =
     let q = start_state (class_of v) in
@@ -207,5 +202,5 @@ cursor_item {text} {at} {v} {c} {next} h p e b k before m n hp he hb hk hm hn =
     h.chars_on ∙ ap (λ (l : List ℕ). v ∷ l) (sym (split_from_tiles q (chars (drop next text)))) in
     let o : n ≡ count_after before x =
     hn ∙ ap (capped_plus before) (hm ∙ ap (count_between text at) i ∙ count-chars text at (v ∷ s) _ tile) in
-    (λ r. Answer.Item (span_at at (i r) (j r) (t r) before (o r)))
+    (λ r. Some (span_at at (i r) (j r) (t r) before (o r)))
     ∙ ap (λ (l : List ℕ). first_of (spans at before (items l))) (sym h.chars_on)

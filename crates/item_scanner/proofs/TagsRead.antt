@@ -1,9 +1,9 @@
 -- Whether tags are complete, from left to right: in a tag modification, by the state that its tags led to; in the rest of an item, by
 -- its tag modifications one after the other.
+use Rattle.std.specs.Prelude.{Some}
 use mathlib.Core.Path.{◌≡◌, refl, ap, ap₂, sym, ◌∙◌}
 use mathlib.Core.Logic.{⊎_elim}
 use mathlib.Core.Bool.{Bool, true, false, not, cond, ◌&&◌, and-true, true≢false}
-use mathlib.Core.Option.{some}
 use mathlib.Core.List.{List, [], ◌∷◌, ◌++◌, append_assoc, append-nil}
 use Prim.Native.Nat.{ℕ}
 use lib.ListN.{drop}
@@ -198,7 +198,7 @@ tags_nil LinksOnly = refl
 tags_nil EmojiHeaded = refl
 
 -- In an emoji-headed item, a tag always belongs to a tag modification.
-no_tag : (p q : State) (k : Class) → transition p k ≡ some q → headed p ≡ true → begins_tags q k ≡ false → is_tag_class k ≡ false
+no_tag : (p q : State) (k : Class) → transition p k ≡ Some q → headed p ≡ true → begins_tags q k ≡ false → is_tag_class k ≡ false
 unfolding begins_tags
 no_tag p q selector e h b = refl
 no_tag p q link e h b = refl
@@ -209,7 +209,7 @@ no_tag p q keycap e h b = refl
 no_tag p q tag e h b = absurd (true≢false (sym (ap (λ (r : State). begins_tags r tag) (tag_transition p q e h)) ∙ b))
 no_tag p q other e h b = refl
 
-pub tags_on : (p q : State) {k : Class} (c : ℕ) (s : List ℕ) → k ≡ class_of c → transition p k ≡ some q → begins_tags q k ≡ false
+pub tags_on : (p q : State) {k : Class} (c : ℕ) (s : List ℕ) → k ≡ class_of c → transition p k ≡ Some q → begins_tags q k ≡ false
     → tags_complete_of (kind_of p) (c ∷ s) ≡ tags_complete_of (kind_of q) s
 tags_on p q {k} c s i e b =
     tags_by p (c ∷ s) ∙ go (headed p) refl ∙ ap (λ (h : Bool). tags_in h s) (headed-transition p q k e) ∙ sym (tags_by q s)

@@ -9,20 +9,20 @@ ghost use Rattle.scanner.specs.Spans.{size, width};
 ghost use Rattle.scanner.specs.Tags.{all_complete, tag_modifications};
 ghost use Rattle.item_scanner.specs.TagStates.{after_tag, is_complete};
 
-use scanner::char_class::{Class, Peeked, peek};
+use scanner::char_class::{Class, peek};
 
 // The tag that ends a complete tag modification.
 pub const CANCEL_TAG: u32 = 0xE007F;
 
 // A tag modification: the offset of its end, and whether it is complete.
-#[derive(Clone, Copy)]
+#[derive(Clone, Copy, Debug, PartialEq, Eq)]
 pub struct TagModification {
     pub end: usize,
     pub complete: bool,
 }
 
 // What the tags of a tag modification are, as far as they have been read.
-#[derive(Clone, Copy)]
+#[derive(Clone, Copy, Debug, PartialEq, Eq)]
 enum TagState {
     // no tag
     NoTag,
@@ -34,45 +34,29 @@ enum TagState {
     Broken,
 }
 
-// The state after one more tag.
-fn after_tag(state: TagState, tag: u32) -> TagState
-    ensures { result ≡ after_tag state tag }
-{
-    match state {
-        TagState::NoTag => {
-            if tag == CANCEL_TAG {
-                TagState::Broken
-            } else {
-                TagState::Open
-            }
+impl TagState {
+    // The state after one more tag.
+    fn after(self, tag: u32) -> Self
+        ensures { result ≡ after_tag self tag }
+    {
+        match (self, tag == CANCEL_TAG) {
+            (TagState::NoTag | TagState::Open, false) => TagState::Open,
+            (TagState::Open, true) => TagState::Complete,
+            _ => TagState::Broken,
         }
-        TagState::Open => {
-            if tag == CANCEL_TAG {
-                TagState::Complete
-            } else {
-                TagState::Open
-            }
-        }
-        TagState::Complete => TagState::Broken,
-        TagState::Broken => TagState::Broken,
     }
-}
 
-// Whether the tags read so far are complete, if no tag follows.
-fn is_complete(state: TagState) -> bool
-    ensures { result ≡ is_complete state }
-{
-    match state {
-        TagState::NoTag => true,
-        TagState::Open => false,
-        TagState::Complete => true,
-        TagState::Broken => false,
+    // Whether the tags read so far are complete, if no tag follows.
+    fn is_complete(self) -> bool
+        ensures { result ≡ is_complete self }
+    {
+        matches!(self, TagState::NoTag | TagState::Complete)
     }
 }
 
 // The tag modification at an offset; it is complete if it has no tag. The outer loop passes groups, the inner loop tags and
 // selectors. A tag after a selector begins the next group. The first character that is neither tag nor selector leaves both loops
-// by the label.
+// by the label. Document 01 names this form.
 pub fn consume_emoji_tag_runs(text: &[u8], at: usize) -> TagModification
     ensures end { result.end ≡ at + size width (tag_modification_at (chars (drop at text.now))) }
     ensures complete { result.complete ≡ all_complete (tag_modifications (tag_modification_at (chars (drop at text.now)))) }
@@ -82,34 +66,20 @@ pub fn consume_emoji_tag_runs(text: &[u8], at: usize) -> TagModification
     'groups: loop {
         let mut selectors = false;
         loop {
-            match peek(text, end) {
-                Peeked::Char {
-                    value,
-                    class,
-                    end: next,
-                } => {
-                    match class {
-                        Class::Selector => {
-                            selectors = true;
-                        }
-                        Class::Tag => {
-                            if selectors {
-                                break;
-                            }
-                            state = after_tag(state, value);
-                        }
-                        _ => {
-                            break 'groups;
-                        }
-                    }
-                    end = next;
-                }
-                Peeked::NoChar => {
-                    break 'groups;
-                }
+            let Some(next) = peek(text, end) else {
+                break 'groups;
+            };
+            match next.class {
+                Class::Selector => selectors = true,
+                Class::Tag if selectors => break,
+                Class::Tag => state = state.after(next.value),
+                _ => break 'groups,
             }
+            end = next.end;
         }
     }
-    let complete = is_complete(state);
-    TagModification { end, complete }
+    TagModification {
+        end,
+        complete: state.is_complete(),
+    }
 }

@@ -7,36 +7,26 @@
 
 pub mod consume;
 
-ghost use Rattle.std.specs.Prelude.{◌≡◌, ◌&&◌, ◌+◌};
+ghost use Rattle.std.specs.Prelude.{◌≡◌, ◌+◌};
 ghost use Rattle.scanner.specs.Items.{kind_of};
 ghost use Rattle.scanner.specs.Spans.{rest_at, scan_at, size, width};
 ghost use Rattle.scanner.specs.Tags.{tags_complete_of};
 
 use consume::consume_emoji_tag_runs;
 use positions::{TextCount, add_counts, count_between};
-use scanner::char_class::{Peeked, peek};
-use scanner::state::{Next, State};
-use scanner::{ScanItem, ScanStep};
+use scanner::ScanItem;
+use scanner::char_class::peek;
+use scanner::state::{State, begins_tags, kind_of, start_state, transition};
 
 // The result of reading an item after its first character: the offset of the item's end, and whether its tags are complete.
-#[derive(Clone, Copy)]
+#[derive(Clone, Copy, Debug, PartialEq, Eq)]
 struct ItemRest {
     end: usize,
     tags_complete: bool,
 }
 
-// Whether both are true.
-fn both(a: bool, b: bool) -> bool
-    ensures { result ≡ (a && b) }
-{
-    if a {
-        return b;
-    }
-    false
-}
-
 // Reads the rest of an item from an offset on; the item's character before this offset led to the state `first`. A tag modification
-// is read by one call.
+// is read by one call, so the offset does not go character by character, as an iterator would.
 fn item_rest(text: &[u8], from: usize, first: State) -> ItemRest
     ensures end { result.end ≡ from + size width (rest_at text.now from first) }
     ensures tags { result.tags_complete ≡ tags_complete_of (kind_of first) (rest_at text.now from first) }
@@ -44,69 +34,42 @@ fn item_rest(text: &[u8], from: usize, first: State) -> ItemRest
     let mut at = from;
     let mut state = first;
     let mut tags_complete = true;
-    loop {
-        match peek(text, at) {
-            Peeked::Char {
-                value: _,
-                class,
-                end,
-            } => {
-                match scanner::state::transition(state, class) {
-                    Next::On(next) => {
-                        state = next;
-                    }
-                    Next::Stop => {
-                        return ItemRest {
-                            end: at,
-                            tags_complete,
-                        };
-                    }
-                }
-                if scanner::state::begins_tags(state, class) {
-                    let tags = consume_emoji_tag_runs(text, at);
-                    tags_complete = both(tags_complete, tags.complete);
-                    at = tags.end;
-                } else {
-                    at = end;
-                }
-            }
-            Peeked::NoChar => {
-                return ItemRest {
-                    end: at,
-                    tags_complete,
-                };
-            }
+    while let Some(next) = peek(text, at) {
+        let Some(after) = transition(state, next.class) else {
+            break;
+        };
+        state = after;
+        if begins_tags(state, next.class) {
+            let tags = consume_emoji_tag_runs(text, at);
+            tags_complete &= tags.complete;
+            at = tags.end;
+        } else {
+            at = next.end;
         }
+    }
+    ItemRest {
+        end: at,
+        tags_complete,
     }
 }
 
 // The item at an offset, or the end. No item begins past the end of the text or inside a character. `before` is the count of the text
 // before the offset; the item's start and end in characters and units follow from it.
-pub fn next_item(text: &[u8], at: usize, before: TextCount) -> ScanStep
+pub fn next_item(text: &[u8], at: usize, before: TextCount) -> Option<ScanItem>
     ensures { result ≡ scan_at text.now at before }
 {
-    match peek(text, at) {
-        Peeked::Char {
-            value: _,
-            class,
-            end: from,
-        } => {
-            let first = scanner::state::start_state(class);
-            let ItemRest { end, tags_complete } = item_rest(text, from, first);
-            let kind = scanner::state::kind_of(first);
-            let more = count_between(text, at, end);
-            let after = add_counts(before, more);
-            ScanStep::Item(ScanItem {
-                start: at,
-                end,
-                kind,
-                tags_complete,
-                char_start: before.chars,
-                char_end: after.chars,
-                unit_start: before.units,
-                unit_end: after.units,
-            })
-        }
-        Peeked::NoChar => ScanStep::End,
-    }
+    let found = peek(text, at)?;
+    let first = start_state(found.class);
+    let rest = item_rest(text, found.end, first);
+    let after = add_counts(before, count_between(text, at, rest.end));
+    Some(ScanItem {
+        start: at,
+        end: rest.end,
+        kind: kind_of(first),
+        tags_complete: rest.tags_complete,
+        char_start: before.chars,
+        char_end: after.chars,
+        unit_start: before.units,
+        unit_end: after.units,
+    })
 }

@@ -1,3 +1,2 @@
--- Contracts of helper functions: listing findings into a table, and items into a table of bytes, step by step.
+-- Contracts of helper functions: listing findings into a table, step by step.
 pub mod Table
-pub mod Items

@@ -10,7 +10,7 @@ pub mod table;
 
 ghost use Rattle.std.specs.Prelude.{◌≡◌, ◌+◌, ◌*◌, ◌≤◌, length};
 ghost use Rattle.base.specs.Tables.{fill_table, rows_bytes};
-ghost use Rattle.base.specs.Answers.{EndsAs, list_row};
+ghost use Rattle.base.specs.Answers.{EndsAs, answer_row};
 ghost use Rattle.base.specs.Output.{PutAt};
 ghost use Rattle.base.specs.Words.{bytes_of};
 ghost use Rattle.utf8.specs.Rfc3629.{valid_up_to_of};
@@ -20,7 +20,7 @@ ghost use Rattle.formatter.specs.List.{list_bytes, row_bytes, row_numbers};
 ghost use Rattle.listing.specs.Table.{finding_rows};
 
 use analysis::types::Finding;
-use base::{Check, ListAnswer, Refusal, WORD_BYTES};
+use base::{Refusal, WORD_BYTES};
 use formatter::intake::first_tests;
 use positions::{TextCount, add_counts, count_between};
 use text_pass::findings::{FindingSpan, next_finding};
@@ -130,34 +130,37 @@ fn put_findings(text: &[u8], policy: &[u8], table: &mut [u8]) -> usize
 }
 
 // Lists the findings of a text, if the table has room for all. `findings` is their number.
-fn fill_table(text: &[u8], policy: &[u8], findings: usize, table: &mut [u8]) -> ListAnswer
+fn fill_table(
+    text: &[u8],
+    policy: &[u8],
+    findings: usize,
+    table: &mut [u8],
+) -> Result<usize, Refusal>
     requires { findings ≡ length (findings_from (policy_of policy.now) text.now 0) }
     ensures { record { answer = result; buffer = table.new }
         ≡ fill_table row_numbers row_bytes (finding_rows text.now policy.now) table.old }
 {
     if findings == 0 {
-        return ListAnswer::Listed { findings };
+        return Ok(findings);
     }
     if table.len() / ROW_BYTES < findings {
-        return ListAnswer::Refused(Refusal::TableTooShort { findings });
+        return Err(Refusal::TableTooShort { findings });
     }
     put_findings(text, policy, table);
-    ListAnswer::Listed { findings }
+    Ok(findings)
 }
 
 // Lists the findings of a text under a policy. The text and the policy are given as bytes.
-pub fn list_findings(text: &[u8], policy: &[u8], table: &mut [u8]) -> ListAnswer
-    ensures { EndsAs list_row (list_bytes text.now policy.now table.old) result table.new }
+pub fn list_findings(text: &[u8], policy: &[u8], table: &mut [u8]) -> Result<usize, Refusal>
+    ensures { EndsAs answer_row (list_bytes text.now policy.now table.old) result table.new }
 {
-    if let Check::Refused(refusal) = first_tests(text, policy) {
-        return ListAnswer::Refused(refusal);
-    }
+    first_tests(text, policy)?;
     let FindingCount {
         findings,
         valid_up_to,
     } = count_findings(text, policy);
     if valid_up_to != text.len() {
-        return ListAnswer::Refused(Refusal::NotWellFormed { valid_up_to });
+        return Err(Refusal::NotWellFormed { valid_up_to });
     }
     fill_table(text, policy, findings, table)
 }

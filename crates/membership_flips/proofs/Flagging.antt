@@ -1,4 +1,5 @@
 -- The flags after the pass say what occurs in the text.
+use Rattle.std.specs.Prelude.{Some, None, Option}
 use mathlib.Core.Path.{◌≡◌, refl, ap, ap₂, sym, ◌∙◌}
 use mathlib.Core.Logic.{⊎_elim}
 use mathlib.Core.Bool.{Bool, true, false, beq, ◌&&◌, ◌||◌, cond, not, false≢true}
@@ -15,10 +16,6 @@ use Rattle.utf8.proofs.Places.{Step, Stop}
 use Rattle.emoji.specs.Presentation.{from_selector}
 use Rattle.emoji.specs.Unicode.{variation_sequence_index}
 use Rattle.emoji.specs.UnicodeData.{variation_entries}
-use Rattle.emoji.specs.declared.VariationSequenceIndex.{VariationSequenceIndex}
-use Rattle.emoji.specs.declared.VariationSequenceIndex.TheVariants as Index
-use Rattle.emoji.specs.declared.presentation.FromSelector.{FromSelector}
-use Rattle.emoji.specs.declared.presentation.FromSelector.TheVariants.{NoSelector, Selector}
 use Rattle.emoji.specs.declared.presentation.Presentation.{Presentation}
 use Rattle.emoji.specs.declared.presentation.Presentation.TheVariants.{Emoji, Text}
 use Rattle.policy_key_set.specs.Sets.{entry_count}
@@ -54,32 +51,32 @@ digit-same true false e = absurd (omega arith)
 digit-same false true e = absurd (omega arith)
 digit-same false false e = refl
 
-number_same : (f g : FromSelector) → selector_number f ≡ selector_number g → same_first g f ≡ true
-number_same NoSelector NoSelector e = refl
-number_same NoSelector (Selector Text) e = absurd (omega arith)
-number_same NoSelector (Selector Emoji) e = absurd (omega arith)
-number_same (Selector Text) NoSelector e = absurd (omega arith)
-number_same (Selector Emoji) NoSelector e = absurd (omega arith)
-number_same (Selector Text) (Selector Text) e = refl
-number_same (Selector Text) (Selector Emoji) e = absurd (omega arith)
-number_same (Selector Emoji) (Selector Text) e = absurd (omega arith)
-number_same (Selector Emoji) (Selector Emoji) e = refl
+number_same : (f g : Option Presentation) → selector_number f ≡ selector_number g → same_first g f ≡ true
+number_same None None e = refl
+number_same None (Some Text) e = absurd (omega arith)
+number_same None (Some Emoji) e = absurd (omega arith)
+number_same (Some Text) None e = absurd (omega arith)
+number_same (Some Emoji) None e = absurd (omega arith)
+number_same (Some Text) (Some Text) e = refl
+number_same (Some Text) (Some Emoji) e = absurd (omega arith)
+number_same (Some Emoji) (Some Text) e = absurd (omega arith)
+number_same (Some Emoji) (Some Emoji) e = refl
 
-same_number : (f g : FromSelector) → same_first g f ≡ true → selector_number f ≡ selector_number g
-same_number NoSelector NoSelector e = refl
-same_number NoSelector (Selector q) e = absurd (false≢true e)
-same_number (Selector q) NoSelector e = absurd (false≢true e)
-same_number (Selector Text) (Selector Text) e = refl
-same_number (Selector Text) (Selector Emoji) e = absurd (false≢true e)
-same_number (Selector Emoji) (Selector Text) e = absurd (false≢true e)
-same_number (Selector Emoji) (Selector Emoji) e = refl
+same_number : (f g : Option Presentation) → same_first g f ≡ true → selector_number f ≡ selector_number g
+same_number None None e = refl
+same_number None (Some q) e = absurd (false≢true e)
+same_number (Some q) None e = absurd (false≢true e)
+same_number (Some Text) (Some Text) e = refl
+same_number (Some Text) (Some Emoji) e = absurd (false≢true e)
+same_number (Some Emoji) (Some Text) e = absurd (false≢true e)
+same_number (Some Emoji) (Some Emoji) e = refl
 
-pub flag_room : (i : ℕ) (k : Bool) (f : FromSelector) → i < 354 → flag_index i k f < 2124
+pub flag_room : (i : ℕ) (k : Bool) (f : Option Presentation) → i < 354 → flag_index i k f < 2124
 unfolding flag_index
 flag_room i k f h = omega (arith, digit-few k, selector_small f)
 
 -- Two indices are the same where entry, domain and selector are, and only there.
-flag_same : (i j : ℕ) (k l : Bool) (f g : FromSelector) → eqb (flag_index i k f) (flag_index j l g)
+flag_same : (i j : ℕ) (k l : Bool) (f g : Option Presentation) → eqb (flag_index i k f) (flag_index j l g)
     ≡ (eqb i j && (beq k l && same_first g f))
 unfolding flag_index
 flag_same i j k l f g =
@@ -107,7 +104,7 @@ or_yes : (b : Bool) → b || true ≡ true
 or_yes true = refl
 or_yes false = refl
 
-flag_set : (flags : List ℕ) (i j : ℕ) (k l : Bool) (f g : FromSelector) → length flags ≡ 2124 → i < 354
+flag_set : (flags : List ℕ) (i j : ℕ) (k l : Bool) (f g : Option Presentation) → length flags ≡ 2124 → i < 354
     → flagged (set flags (flag_index i k f) 1) j l g ≡ (flagged flags j l g || (eqb i j && (beq k l && same_first g f)))
 unfolding flagged
 flag_set flags i j k l f g n h = ⊎_elim
@@ -124,7 +121,7 @@ flag_set flags i j k l f g n h = ⊎_elim
     old : Bool
     old = not (eqb (get_or flags (flag_index j l g) 0) 0)
 
-flag_with_entry : (t flags : List ℕ) (i j : ℕ) (l : Bool) (g : FromSelector) → length flags ≡ 2124 → i < 354
+flag_with_entry : (t flags : List ℕ) (i j : ℕ) (l : Bool) (g : Option Presentation) → length flags ≡ 2124 → i < 354
     → flagged (with_entry t i flags) j l g ≡ (flagged flags j l g
     || ((eqb i j && judged_in l (following (cells t))) && same_first g (first_asked (leading t))))
 unfolding with_entry is_judged judged_in
@@ -133,7 +130,7 @@ flag_with_entry t flags i j l g n h = go (by_modifier k) (by_tags k)
     k : Class
     k = following (cells t)
 
-    f : FromSelector
+    f : Option Presentation
     f = first_asked (leading t)
 
     none : (x y : Bool) → x ≡ (x || ((y && false) && same_first g f))
@@ -160,20 +157,21 @@ abbrev C : ℕ → ℕ
 C i = get_or variation_entries i 0
 
 -- A character without an entry occurs nowhere.
-pub occurs_plain : (v : ℕ) (t : List ℕ) → variation_sequence_index v ≡ Index.NoEntry → (j : ℕ) → j < entry_count
-    → (l : Bool) (g : FromSelector)
+pub occurs_plain : (v : ℕ) (t : List ℕ) → variation_sequence_index v ≡ None → (j : ℕ) → j < entry_count
+    → (l : Bool) (g : Option Presentation)
     → occurs (C j) l (cells (v ∷ t)) g ≡ occurs (C j) l (cells t) g
 unfolding split add_char occurs
 occurs_plain v t e j h l g = go (from_selector v)
   where
-    go : (s : FromSelector) → occurs (C j) l (add_char v s (split t)).1 g ≡ occurs (C j) l (cells t) g
-    go (Selector q) = refl
-    go NoSelector =
+    go : (s : Option Presentation) → occurs (C j) l (add_char v s (split t)).1 g ≡ occurs (C j) l (cells t) g
+    go (Some q) = refl
+    go None =
         ap (λ (b : Bool). (b && judged_in l (following (cells t))) && same_first g (first_asked (leading t)) || occurs (C j) l (cells t) g)
         (eqb_back v (C j) ∙ no_entry v e j h)
 
 -- An entry occurs as it stands there.
-occurs_entry : (v i : ℕ) (t : List ℕ) → variation_sequence_index v ≡ Index.At i → (j : ℕ) → j < entry_count → (l : Bool) (g : FromSelector)
+occurs_entry : (v i : ℕ) (t : List ℕ) → variation_sequence_index v ≡ Some i → (j : ℕ) → j < entry_count
+    → (l : Bool) (g : Option Presentation)
     → occurs (C j) l (cells (v ∷ t)) g ≡ ((eqb i j && judged_in l (following (cells t))) && same_first g (first_asked (leading t)) || occurs
     (C j) l (cells t) g)
 unfolding occurs
@@ -188,7 +186,7 @@ occurs_entry v i t e j h l g =
 pub record FlagsUpTo (text flags : List ℕ) (at : ℕ) : Type 0 where
   pub inside : at ≤ length text
   pub many : length flags ≡ 2124
-  pub sees : (i : ℕ) → i < entry_count → (k : Bool) (f : FromSelector)
+  pub sees : (i : ℕ) → i < entry_count → (k : Bool) (f : Option Presentation)
       → (flagged flags i k f || occurs (C i) k (cells (chars (drop at text))) f) ≡ occurs (C i) k (cells (chars text)) f
   pub valid : valid_up_to_of text ≡ at + valid_up_to_of (drop at text)
 
@@ -228,13 +226,13 @@ module _ {text flags : List ℕ} {at : ℕ} (s : FlagsUpTo text flags at) where
       valid' : valid_up_to_of text ≡ at + w + valid_up_to_of (drop (at + w) text)
       valid' = omega (arith, s.valid, k.valid_up_to_on)
 
-      whole : (i : ℕ) → i < entry_count → (l : Bool) (f : FromSelector) → (flagged flags i l f || occurs (C i) l (cells (v ∷ T)) f)
+      whole : (i : ℕ) → i < entry_count → (l : Bool) (f : Option Presentation) → (flagged flags i l f || occurs (C i) l (cells (v ∷ T)) f)
           ≡ occurs (C i) l (cells (chars text)) f
       whole i h l f = ap (λ (t : List ℕ). flagged flags i l f || occurs (C i) l (cells t) f) (sym k.chars_on) ∙ s.sees i h l f
 
-      go : (r : VariationSequenceIndex) → variation_sequence_index v ≡ r → FlagsUpTo text flags' (at + w)
-      go (Index.At i) g =
-          let now : flags' ≡ with_entry T i flags = e ∙ ap (λ (r : VariationSequenceIndex). with_char r T flags) g in
+      go : (r : Option ℕ) → variation_sequence_index v ≡ r → FlagsUpTo text flags' (at + w)
+      go (Some i) g =
+          let now : flags' ≡ with_entry T i flags = e ∙ ap (λ (r : Option ℕ). with_char r T flags) g in
           let small : i < 354 = omega (arith, (index_has_place v i g).0, entry_count_lem) in
           record {
             inside = inside';
@@ -247,8 +245,8 @@ module _ {text flags : List ℕ} {at : ℕ} (s : FlagsUpTo text flags at) where
                 ∙ ap (λ (b : Bool). flagged flags j l f || b) (sym (occurs_entry v i T g j h l f)) ∙ whole j h l f;
             valid = valid';
           }
-      go Index.NoEntry g =
-          let now : flags' ≡ flags = e ∙ ap (λ (r : VariationSequenceIndex). with_char r T flags) g in
+      go None g =
+          let now : flags' ≡ flags = e ∙ ap (λ (r : Option ℕ). with_char r T flags) g in
           record {
             inside = inside';
             many = ap length now ∙ s.many;
@@ -294,7 +292,8 @@ module _ (text : List ℕ) (after i : ℕ) (flags : List ℕ) where
         (set flags (flag_index i (by_keycap (following (cells B))) (first_asked (leading B))) 1)
         flags) (ap is_judged (sym n) ∙ sym j ∙ e))
 
-    pub entry-judged : judged ≡ true → {first : FromSelector} → first ≡ first_selector B → {k : Bool} → k ≡ by_keycap next → {at : ℕ} → at
+    pub entry-judged : judged ≡ true → {first : Option Presentation} → first ≡ first_selector B → {k : Bool} → k ≡ by_keycap next → {at : ℕ}
+        → at
         ≡ flag_index i k first → set flags at 1 ≡ with_entry B i flags
     unfolding with_entry
     entry-judged e f g h =
@@ -302,13 +301,13 @@ module _ (text : List ℕ) (after i : ℕ) (flags : List ℕ) where
         ∙ sym (ap (λ (b : Bool). cond b (set flags (flag_index i (by_keycap (following (cells B))) (first_asked (leading B))) 1) flags)
         (ap is_judged (sym n) ∙ sym j ∙ e))
 
-  pub with_entry-char : (v : ℕ) → variation_sequence_index v ≡ Index.At i → {flags' : List ℕ} → flags' ≡ with_entry B i flags → flags'
+  pub with_entry-char : (v : ℕ) → variation_sequence_index v ≡ Some i → {flags' : List ℕ} → flags' ≡ with_entry B i flags → flags'
       ≡ with_char (variation_sequence_index v) B flags
-  with_entry-char v e h = h ∙ ap (λ (r : VariationSequenceIndex). with_char r B flags) (sym e)
+  with_entry-char v e h = h ∙ ap (λ (r : Option ℕ). with_char r B flags) (sym e)
 
-pub entry_small : (v i : ℕ) → variation_sequence_index v ≡ Index.At i → i < 354
+pub entry_small : (v i : ℕ) → variation_sequence_index v ≡ Some i → i < 354
 entry_small v i e = omega (arith, (index_has_place v i e).0, entry_count_lem)
 
-pub with_no_entry : (v : ℕ) (t flags : List ℕ) → variation_sequence_index v ≡ Index.NoEntry → flags
+pub with_no_entry : (v : ℕ) (t flags : List ℕ) → variation_sequence_index v ≡ None → flags
     ≡ with_char (variation_sequence_index v) t flags
-with_no_entry v t flags e = ap (λ (r : VariationSequenceIndex). with_char r t flags) (sym e)
+with_no_entry v t flags e = ap (λ (r : Option ℕ). with_char r t flags) (sym e)

@@ -8,3 +8,4 @@ pub mod Skipping
 pub mod Listing
 pub mod Examples
 pub mod Claims
+mod Digits

@@ -1,12 +1,14 @@
 -- The memberships by number, the test by the flags, and the table after the call.
+use Rattle.emoji.specs.declared.presentation.Presentation.{Presentation}
+use Rattle.std.specs.Prelude.{Err, Some, None, Option}
 use mathlib.Core.Path.{◌≡◌, refl, ap, ap₂, subst, sym, ◌∙◌}
-use mathlib.Core.Bool.{Bool, true, false, ◌||◌, cond, true≢false}
+use mathlib.Core.Bool.{Bool, true, false, ◌||◌, cond}
 use mathlib.Core.List.{List, [], ◌∷◌, ◌++◌, Memᴰ}
-use mathlib.Core.Option.{Option, none, some}
 use Prim.Native.Nat.{ℕ, zero, suc, ◌+◌, ◌*◌, ◌-◌, ◌/◌, ◌%◌, ◌<◌, ◌≤◌}
 use native.Mathlib.Numerals.{add-one}
 use native.Mathlib.Omega.{arith}
 use lib.Dec.{eqb}
+use Rattle.std.specs.Int.{from_bool}
 use lib.ListN.{get_or, length, length-replicate, replicate}
 use borrow.Author.Tests.{eq-eqb, ne_eqb}
 use Rattle.base.proofs.Lists.{zeros}
@@ -18,10 +20,7 @@ use Rattle.base.specs.declared.Refusal.{Refusal}
 use Rattle.base.specs.Words.{bytes_of}
 use Rattle.base.proofs.Numbers.{length_bytes_of_lem}
 use Rattle.base.specs.Tables.{fill_table, rows_bytes}
-use Rattle.base.specs.declared.ListAnswer.TheVariants.{Refused}
 use Rattle.emoji.specs.UnicodeData.{variation_entries}
-use Rattle.emoji.specs.declared.presentation.FromSelector.{FromSelector}
-use Rattle.emoji.specs.declared.presentation.FromSelector.TheVariants.{NoSelector, Selector}
 use Rattle.emoji.specs.declared.presentation.Presentation.TheVariants.{Emoji, Text}
 use Rattle.policy_key_set.specs.Sets.{entry_count}
 use Rattle.policy_key_set.proofs.Entries.{entry_count_lem}
@@ -40,7 +39,7 @@ use Rattle.membership_flips.proofs.Order.{no_other_membership}
 
 -- ---- the test by the rule
 
-for_rule : (a b t : Bool) (s : FromSelector → Bool) → matters_for (rule_of b t) a (s NoSelector) (s (Selector Text)) (s (Selector Emoji))
+for_rule : (a b t : Bool) (s : Option Presentation → Bool) → matters_for (rule_of b t) a (s None) (s (Some Text)) (s (Some Emoji))
     ≡ matters a b t s
 unfolding rule_of matters
 for_rule false false false s = refl
@@ -52,36 +51,38 @@ for_rule true false true s = refl
 for_rule true true false s = refl
 for_rule true true true s = refl
 
-pub tip_is : (p : Policy) (i : ℕ) (k a : Bool) (s : FromSelector → Bool) {r : SingletonRule} {bare text emoji : Bool} → r ≡ entry_rule p i k
-    → bare ≡ s NoSelector → text ≡ s (Selector Text) → emoji ≡ s (Selector Emoji)
+pub tip_is : (p : Policy) (i : ℕ) (k a : Bool) (s : Option Presentation → Bool) {r : SingletonRule} {bare text emoji : Bool}
+    → r ≡ entry_rule p i k
+    → bare ≡ s None → text ≡ s (Some Text) → emoji ≡ s (Some Emoji)
     → matters_for r a bare text emoji ≡ matters a (holds_entry p.prefer_bare i k) (holds_entry p.bare_as_text i k) s
 unfolding entry_rule
 tip_is p i k a s {r} {bare} {text} {emoji} e f g h =
     ap₂ (λ (x : SingletonRule) (y : Bool). matters_for x a y text emoji) e f
-    ∙ ap₂ (λ (y z : Bool). matters_for (rule_of (holds_entry p.prefer_bare i k) (holds_entry p.bare_as_text i k)) a (s NoSelector) y
+    ∙ ap₂ (λ (y z : Bool). matters_for (rule_of (holds_entry p.prefer_bare i k) (holds_entry p.bare_as_text i k)) a (s None) y
     z) g h
     ∙ for_rule a (holds_entry p.prefer_bare i k) (holds_entry p.bare_as_text i k) s
 
 -- Where an entry is not used, no flip of it matters.
-pub unused : (r : SingletonRule) (a x y z : Bool) → x || (y || z) ≡ false → false ≡ matters_for r a x y z
-unused r a true y z e = absurd (true≢false e)
-unused r a false true z e = absurd (true≢false e)
-unused r a false false true e = absurd (true≢false e)
-unused BareToEmoji true false false false e = refl
-unused BareToEmoji false false false false e = refl
-unused BareToText true false false false e = refl
-unused BareToText false false false false e = refl
-unused EmojiToBare true false false false e = refl
-unused EmojiToBare false false false false e = refl
-unused TextToBare true false false false e = refl
-unused TextToBare false false false false e = refl
+pub unused : (r : SingletonRule) (a : Bool) {x y z : Bool} → x ≡ false → y ≡ false → z ≡ false → false ≡ matters_for r a x y z
+unused r a {x} {y} {z} e f g = go r a ∙ (ap₂ (λ (u v : Bool). matters_for r a u v false) (sym e) (sym f) ∙ ap (matters_for r a x y) (sym g))
+  where
+    go : (r : SingletonRule) (a : Bool) → false ≡ matters_for r a false false false
+    go BareToEmoji true = refl
+    go BareToEmoji false = refl
+    go BareToText true = refl
+    go BareToText false = refl
+    go EmojiToBare true = refl
+    go EmojiToBare false = refl
+    go TextToBare true = refl
+    go TextToBare false = refl
 
-matters-same : (a b t : Bool) {r s : FromSelector → Bool} → ((f : FromSelector) → r f ≡ s f) → matters a b t r ≡ matters a b t s
+matters-same : (a b t : Bool) {r s : Option Presentation → Bool} → ((f : Option Presentation) → r f ≡ s f)
+    → matters a b t r ≡ matters a b t s
 unfolding matters
-matters-same false b false h = ap₂ (λ (x y : Bool). x || y) (h NoSelector) (h (Selector Emoji))
-matters-same false b true h = ap₂ (λ (x y : Bool). x || y) (h NoSelector) (h (Selector Text))
-matters-same true false t h = h NoSelector
-matters-same true true t h = ap₂ (λ (x y : Bool). x || y) (h (Selector Text)) (h (Selector Emoji))
+matters-same false b false h = ap₂ (λ (x y : Bool). x || y) (h None) (h (Some Emoji))
+matters-same false b true h = ap₂ (λ (x y : Bool). x || y) (h None) (h (Some Text))
+matters-same true false t h = h None
+matters-same true true t h = ap₂ (λ (x y : Bool). x || y) (h (Some Text)) (h (Some Emoji))
 
 -- ---- the memberships by number
 
@@ -154,11 +155,11 @@ flags_tell text policy flags s e =
     ∙ sym (tips-by_use text policy m b e))
 
 module _ {A : Type 0} (test : A → Bool) (f : A) (l : List A) where
-  count-one : {a : Bool} {n : ℕ} → a ≡ test f → n ≡ cond a 1 0 → length (filter test (f ∷ l)) ≡ n + length (filter test l)
+  count-one : {a : Bool} {n : ℕ} → a ≡ test f → n ≡ from_bool a → length (filter test (f ∷ l)) ≡ n + length (filter test l)
   unfolding filter
   count-one {a} {n} e h = go a (sym e) h
     where
-      go : (b : Bool) → test f ≡ b → n ≡ cond b 1 0
+      go : (b : Bool) → test f ≡ b → n ≡ from_bool b
           → length (cond (test f) (f ∷ filter test l) (filter test l)) ≡ n + length (filter test l)
       go true g h = ap (λ (b : Bool). length (cond b (f ∷ filter test l) (filter test l))) g ∙ omega arith
       go false g h = ap (λ (b : Bool). length (cond b (f ∷ filter test l) (filter test l))) g ∙ omega arith
@@ -184,7 +185,7 @@ module _ (test : Membership → Bool) where
       let e : 1416 - n ≡ suc (1416 - (n + 1)) = omega arith in
       ap (λ (k : ℕ). numbered k n) e ∙ ap (λ (m : ℕ). membership_at n ∷ numbered (1416 - (n + 1)) m) (sym (add-one n))
 
-  pub count-on : (n : ℕ) → n < 1416 → {a : Bool} {x : ℕ} → a ≡ test (membership_at n) → x ≡ cond a 1 0 → length (tipping_from n)
+  pub count-on : (n : ℕ) → n < 1416 → {a : Bool} {x : ℕ} → a ≡ test (membership_at n) → x ≡ from_bool a → length (tipping_from n)
       ≡ x + length (tipping_from (n + 1))
   count-on n h e f = ap (λ (l : List Membership). length (filter test l)) (one_number n h)
       ∙ count-one test (membership_at n) (numbered (1416 - (n + 1)) (n + 1)) e f
@@ -223,18 +224,18 @@ put_yes {o} {o'} {xs} {s} {r} e p = subst (λ (b : Bool). PutAt o s (cond b xs [
 -- ---- the call
 
 module _ (text policy table : List ℕ) where
-  pub tips-refused : (r : Refusal) → intake_refusal text policy ≡ some r → record { answer = Refused r; buffer = table }
+  pub tips-refused : (r : Refusal) → intake_refusal text policy ≡ Some r → record { answer = Err r; buffer = table }
       ≡ list_tips text policy table
   unfolding list_tips
-  tips-refused r e = sym (ap (λ (x : Option Refusal). or_else x (λ (r : Refusal). unwritten (Refused r) table)
+  tips-refused r e = sym (ap (λ (x : Option Refusal). or_else x (λ (r : Refusal). unwritten (Err r) table)
       (fill_table tip_numbers 24 (tipping text policy) table)) e)
 
-  pub tips-passed : intake_refusal text policy ≡ none → {l : List Membership} → l ≡ tipping text policy → fill_table tip_numbers 24 l table
+  pub tips-passed : intake_refusal text policy ≡ None → {l : List Membership} → l ≡ tipping text policy → fill_table tip_numbers 24 l table
       ≡ list_tips text policy table
   unfolding list_tips
   tips-passed e f =
       ap (λ (l : List Membership). fill_table tip_numbers 24 l table) f
-      ∙ sym (ap (λ (x : Option Refusal). or_else x (λ (r : Refusal). unwritten (Refused r) table)
+      ∙ sym (ap (λ (x : Option Refusal). or_else x (λ (r : Refusal). unwritten (Err r) table)
       (fill_table tip_numbers 24 (tipping text policy) table)) e)
 
 -- ---- flags that are not set

@@ -1,4 +1,5 @@
 -- Characters without a variation entry are skipped: what occurs in the text does not depend on them.
+use Rattle.std.specs.Prelude.{Some, None, Option}
 use mathlib.Core.Path.{◌≡◌, refl, ap, sym, ◌∙◌}
 use mathlib.Core.Bool.{true≢false}
 use mathlib.Core.List.{List}
@@ -9,8 +10,6 @@ use Rattle.ascii_runs.proofs.AsciiRuns.{read_char_ascii_at}
 use Rattle.utf8.proofs.Places.{Step, step}
 use Rattle.emoji.specs.UnicodeData.{variation_entries}
 use Rattle.emoji.specs.Unicode.{variation_sequence_index}
-use Rattle.emoji.specs.declared.VariationSequenceIndex.{VariationSequenceIndex}
-use Rattle.emoji.specs.declared.VariationSequenceIndex.TheVariants as Index
 use Rattle.emoji.proofs.Ascent.{is_at}
 use Rattle.policy_key_set.proofs.Contains.{has_index}
 use Rattle.scanner.specs.Classes.{class_of}
@@ -32,7 +31,7 @@ module _ {text : List ℕ} where
     same = λ j h k f. a.same j h k f ∙ b.same j h k f;
   }
 
-  none-char : {at v w : ℕ} → Step text at v w → variation_sequence_index v ≡ Index.NoEntry → NoEntryBetween text at (at + w)
+  none-char : {at v w : ℕ} → Step text at v w → variation_sequence_index v ≡ None → NoEntryBetween text at (at + w)
   none-char {at} {v} {w} s e = record {
     advances = step_advances s;
     same = λ j h k f.
@@ -45,9 +44,9 @@ module _ {text : List ℕ} where
   unfolding is_at
   none_other {at} {v} {w} s e = go (variation_sequence_index v) refl
     where
-      go : (r : VariationSequenceIndex) → variation_sequence_index v ≡ r → NoEntryBetween text at (at + w)
-      go (Index.At i) f = absurd (true≢false (sym (has_index v ∙ ap is_at f) ∙ (other_plain v e).no_entry))
-      go Index.NoEntry f = none-char s f
+      go : (r : Option ℕ) → variation_sequence_index v ≡ r → NoEntryBetween text at (at + w)
+      go (Some i) f = absurd (true≢false (sym (has_index v ∙ ap is_at f) ∙ (other_plain v e).no_entry))
+      go None f = none-char s f
 
   pub none_ascii : (at : ℕ) → at < length text → get_or text at 0 ≤ 0x7F → class_of (get_or text at 0) ≡ other
       → NoEntryBetween text at (at + 1)

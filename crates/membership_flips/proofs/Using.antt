@@ -1,4 +1,5 @@
 -- A flip alters the cells that are written where it matters for what occurs among them, and only there.
+use Rattle.std.specs.Prelude.{Some, None, Option}
 use mathlib.Core.Path.{◌≡◌, refl, ap, ap₂, sym, ◌∙◌}
 use mathlib.Core.Logic.{◌≢◌, ⊎_elim}
 use mathlib.Core.Bool.{Bool, true, false, beq, ◌&&◌, ◌||◌, false≢true, not, true≢false}
@@ -10,10 +11,6 @@ use borrow.Author.Tests.{eq-eqb, eqb-true}
 use Rattle.base.proofs.Tests.{and_both, beq_so, both_false, both_true, either_true, fails, not_so, so_beq}
 use Rattle.emoji.specs.Unicode.{has_variation_sequence, variation_sequence_index}
 use Rattle.emoji.specs.UnicodeData.{variation_entries}
-use Rattle.emoji.specs.declared.VariationSequenceIndex.{VariationSequenceIndex}
-use Rattle.emoji.specs.declared.VariationSequenceIndex.TheVariants as Index
-use Rattle.emoji.specs.declared.presentation.FromSelector.{FromSelector}
-use Rattle.emoji.specs.declared.presentation.FromSelector.TheVariants.{NoSelector, Selector}
 use Rattle.emoji.specs.declared.presentation.Presentation.{Presentation}
 use Rattle.emoji.specs.declared.presentation.Presentation.TheVariants.{Emoji, Text}
 use Rattle.emoji.proofs.Ascent.{is_at}
@@ -52,27 +49,27 @@ use Rattle.membership_flips.proofs.Flipping.{differ_false, prefer_flip, text_fli
 
 -- ---- first selectors
 
-first_so : (f g : FromSelector) → same_first f g ≡ true → f ≡ g
-first_so NoSelector NoSelector e = refl
-first_so NoSelector (Selector q) e = absurd (false≢true e)
-first_so (Selector q) NoSelector e = absurd (false≢true e)
-first_so (Selector Text) (Selector Text) e = refl
-first_so (Selector Text) (Selector Emoji) e = absurd (false≢true e)
-first_so (Selector Emoji) (Selector Text) e = absurd (false≢true e)
-first_so (Selector Emoji) (Selector Emoji) e = refl
+first_so : (f g : Option Presentation) → same_first f g ≡ true → f ≡ g
+first_so None None e = refl
+first_so None (Some q) e = absurd (false≢true e)
+first_so (Some q) None e = absurd (false≢true e)
+first_so (Some Text) (Some Text) e = refl
+first_so (Some Text) (Some Emoji) e = absurd (false≢true e)
+first_so (Some Emoji) (Some Text) e = absurd (false≢true e)
+first_so (Some Emoji) (Some Emoji) e = refl
 
-first_self : (f : FromSelector) → same_first f f ≡ true
-first_self NoSelector = refl
-first_self (Selector Text) = refl
-first_self (Selector Emoji) = refl
+first_self : (f : Option Presentation) → same_first f f ≡ true
+first_self None = refl
+first_self (Some Text) = refl
+first_self (Some Emoji) = refl
 
 -- What a slot holds, by its first selector.
-abbrev in_slot : Slot → FromSelector
+abbrev in_slot : Slot → Option Presentation
 in_slot o = first_asked (chosen o [])
 
-abbrev run : FromSelector → List Presentation
-run NoSelector = []
-run (Selector q) = q ∷ []
+abbrev run : Option Presentation → List Presentation
+run None = []
+run (Some q) = q ∷ []
 
 slot-run : (o : Slot) → chosen o [] ≡ run (in_slot o)
 unfolding first_asked
@@ -89,7 +86,7 @@ flip_rule true b t = rule_of b (not t)
 
 rule_tip : (a b t : Bool) (s : List Presentation)
     → same_first (in_slot (rule6 (flip_rule a b t) s).slot) (in_slot (rule6 (rule_of b t) s).slot)
-    ≡ not (matters a b t (λ (f : FromSelector). same_first f (first_asked s)))
+    ≡ not (matters a b t (λ (f : Option Presentation). same_first f (first_asked s)))
 unfolding matters first_asked rule6 rule_of is_bare_side without_selector
 rule_tip false false false [] = refl
 rule_tip false false false (Text ∷ s) = refl
@@ -124,16 +121,16 @@ shuffle false true true z = refl
 shuffle false true false z = refl
 shuffle false false y z = refl
 
-matters-step : (a b t g : Bool) (r s : FromSelector → Bool)
-    → matters a b t (λ (f : FromSelector). g && r f || s f) ≡ (g && matters a b t r || matters a b t s)
+matters-step : (a b t g : Bool) (r s : Option Presentation → Bool)
+    → matters a b t (λ (f : Option Presentation). g && r f || s f) ≡ (g && matters a b t r || matters a b t s)
 unfolding matters
-matters-step false b true true r s = shuffle (r NoSelector) (r (Selector Text)) (s NoSelector) (s (Selector Text))
-matters-step false b false true r s = shuffle (r NoSelector) (r (Selector Emoji)) (s NoSelector) (s (Selector Emoji))
+matters-step false b true true r s = shuffle (r None) (r (Some Text)) (s None) (s (Some Text))
+matters-step false b false true r s = shuffle (r None) (r (Some Emoji)) (s None) (s (Some Emoji))
 matters-step false b true false r s = refl
 matters-step false b false false r s = refl
 matters-step true false t true r s = refl
 matters-step true false t false r s = refl
-matters-step true true t true r s = shuffle (r (Selector Text)) (r (Selector Emoji)) (s (Selector Text)) (s (Selector Emoji))
+matters-step true true t true r s = shuffle (r (Some Text)) (r (Some Emoji)) (s (Some Text)) (s (Some Emoji))
 matters-step true true t false r s = refl
 
 -- ---- a cell under the two policies
@@ -188,7 +185,7 @@ and_assoc : (x y z : Bool) → (x && y) && z ≡ x && (y && z)
 and_assoc true y z = refl
 and_assoc false y z = refl
 
-nothing_seen : (a b t : Bool) → matters a b t (λ (f : FromSelector). false) ≡ true → ⊥
+nothing_seen : (a b t : Bool) → matters a b t (λ (f : Option Presentation). false) ≡ true → ⊥
 unfolding matters
 nothing_seen false b false e = false≢true e
 nothing_seen false b true e = false≢true e
@@ -220,8 +217,8 @@ module _ (p : Policy) (six : SixWordSets p) (i : ℕ) (h : i < entry_count) (k a
   unfolding RuleWithoutEntry is_at entry_rule
   rule_other c l n = go (variation_sequence_index c) refl
     where
-      go : (r : VariationSequenceIndex) → variation_sequence_index c ≡ r → singleton_rule q c l ≡ singleton_rule p c l
-      go (Index.At j) e =
+      go : (r : Option ℕ) → variation_sequence_index c ≡ r → singleton_rule q c l ≡ singleton_rule p c l
+      go (Some j) e =
           let no : (x : Bool) → (eqb i j && (beq k l && x)) ≡ false =
           λ x. fails (eqb i j && (beq k l && x)) (λ t.
           let u = both_true (eqb i j) (beq k l && x) t in
@@ -233,7 +230,7 @@ module _ (p : Policy) (six : SixWordSets p) (i : ℕ) (h : i < entry_count) (k a
           (text_flip p six i h a k j l ∙ ap (differ (holds_entry p.bare_as_text j l)) (no (beq a true))
           ∙ differ_false (holds_entry p.bare_as_text j l))
           ∙ sym (rule_by_entry p c j l e)
-      go Index.NoEntry e =
+      go None e =
           let w = has_index c ∙ ap is_at e in
           rule_without_entry q c l w ∙ sym (rule_without_entry p c l w)
 
@@ -255,12 +252,12 @@ module _ (p : Policy) (six : SixWordSets p) (i : ℕ) (h : i < entry_count) (k a
   -- The selector written after a base is the same where the flip does not matter for the base, and only there.
   cell_tip : (c : ℕ) (n : Class) (s : List Presentation)
       → same_first (in_slot (outcome q c n s).slot) (in_slot (outcome p c n s).slot)
-      ≡ not ((eqb c C && judged_in k n) && matters a B T (λ (f : FromSelector). same_first f (first_asked s)))
+      ≡ not ((eqb c C && judged_in k n) && matters a B T (λ (f : Option Presentation). same_first f (first_asked s)))
   unfolding judged_in
   cell_tip c n s = go (eqb c C && judged_in k n) refl
     where
       here : eqb c C && judged_in k n ≡ true → same_first (in_slot (outcome q c n s).slot) (in_slot (outcome p c n s).slot)
-          ≡ not (matters a B T (λ (f : FromSelector). same_first f (first_asked s)))
+          ≡ not (matters a B T (λ (f : Option Presentation). same_first f (first_asked s)))
       here e =
           let u = both_true (eqb c C) (judged_in k n) e in
           let v = both_true (not (by_modifier n)) (not (by_tags n) && beq (by_keycap n) k) u.1 in
@@ -286,12 +283,12 @@ module _ (p : Policy) (six : SixWordSets p) (i : ℕ) (h : i < entry_count) (k a
 
       go : (g : Bool) → eqb c C && judged_in k n ≡ g
           → same_first (in_slot (outcome q c n s).slot) (in_slot (outcome p c n s).slot)
-          ≡ not ((eqb c C && judged_in k n) && matters a B T (λ (f : FromSelector). same_first f (first_asked s)))
-      go true e = here e ∙ ap (λ (g : Bool). not (g && matters a B T (λ (f : FromSelector). same_first f (first_asked s)))) (sym e)
+          ≡ not ((eqb c C && judged_in k n) && matters a B T (λ (f : Option Presentation). same_first f (first_asked s)))
+      go true e = here e ∙ ap (λ (g : Bool). not (g && matters a B T (λ (f : Option Presentation). same_first f (first_asked s)))) (sym e)
       go false e =
           ap (λ (x : Outcome). same_first (in_slot x.slot) (in_slot (outcome p c n s).slot)) (there e)
           ∙ first_self (in_slot (outcome p c n s).slot)
-          ∙ ap (λ (g : Bool). not (g && matters a B T (λ (f : FromSelector). same_first f (first_asked s)))) (sym e)
+          ∙ ap (λ (g : Bool). not (g && matters a B T (λ (f : Option Presentation). same_first f (first_asked s)))) (sym e)
 
 -- ---- all cells
 
@@ -302,18 +299,18 @@ renew_cons p x xs =
     ap₂ (λ (l : List Presentation) (r : List Cell). record { char = x.char; after = l } ∷ r) (slot-run (outcome_at p x xs).slot)
     (ap (renew p xs) (remaining-none (outcome_at p x xs).slot))
 
-abbrev first_after : List Cell → FromSelector
-first_after [] = NoSelector
+abbrev first_after : List Cell → Option Presentation
+first_after [] = None
 first_after (x ∷ xs) = first_asked x.after
 
 abbrev tail_of : List Cell → List Cell
 tail_of [] = []
 tail_of (x ∷ xs) = xs
 
-first_run : (f : FromSelector) → first_asked (run f) ≡ f
+first_run : (f : Option Presentation) → first_asked (run f) ≡ f
 unfolding first_asked
-first_run NoSelector = refl
-first_run (Selector q) = refl
+first_run None = refl
+first_run (Some q) = refl
 
 module _ (p : Policy) (six : SixWordSets p) (i : ℕ) (h : i < entry_count) (k a : Bool) where
   abbrev M : List Cell → Bool
@@ -324,10 +321,10 @@ module _ (p : Policy) (six : SixWordSets p) (i : ℕ) (h : i < entry_count) (k a
   unfolding occurs
   step x xs =
       matters-step a (B p six i h k a) (T p six i h k a) (eqb x.char (C p six i h k a) && judged_in k (following xs))
-      (λ (f : FromSelector). same_first f (first_asked x.after)) (occurs (C p six i h k a) k xs)
+      (λ (f : Option Presentation). same_first f (first_asked x.after)) (occurs (C p six i h k a) k xs)
       ∙ ap (λ (b : Bool). b || M xs) (sym (ap not (cell_tip p six i h k a x.char (following xs) x.after)
       ∙ not_not ((eqb x.char (C p six i h k a) && judged_in k (following xs)) && matters a (B p six i h k a) (T p six i h k a)
-      (λ (f : FromSelector). same_first f (first_asked x.after)))))
+      (λ (f : Option Presentation). same_first f (first_asked x.after)))))
 
   pub renew_same : (xs : List Cell) → M xs ≡ false → renew (flip_in a i k p) xs [] ≡ renew p xs []
   unfolding renew
@@ -337,7 +334,7 @@ module _ (p : Policy) (six : SixWordSets p) (i : ℕ) (h : i < entry_count) (k a
       let o' = in_slot (outcome_at p x xs).slot in
       let u = both_false (not (same_first o o')) (M xs) (sym (step x xs) ∙ e) in
       renew_cons (flip_in a i k p) x xs
-      ∙ ap₂ (λ (f : FromSelector) (r : List Cell). record { char = x.char; after = run f } ∷ r)
+      ∙ ap₂ (λ (f : Option Presentation) (r : List Cell). record { char = x.char; after = run f } ∷ r)
       (first_so o o' (so_not (same_first o o') u.0)) (renew_same xs u.1)
       ∙ sym (renew_cons p x xs)
 
@@ -350,7 +347,7 @@ module _ (p : Policy) (six : SixWordSets p) (i : ℕ) (h : i < entry_count) (k a
       let g = sym (renew_cons (flip_in a i k p) x xs) ∙ f ∙ renew_cons p x xs in
       let one : o ≡ o' = sym (first_run o) ∙ ap first_after g ∙ first_run o' in
       ⊎_elim
-      (λ (w : not (same_first o o') ≡ true). true≢false (sym (ap (λ (z : FromSelector). same_first z o') one ∙ first_self o')
+      (λ (w : not (same_first o o') ≡ true). true≢false (sym (ap (λ (z : Option Presentation). same_first z o') one ∙ first_self o')
       ∙ not_so (same_first o o') w))
       (λ (w : M xs ≡ true). renew_differs xs w (ap tail_of g))
       (either_true (not (same_first o o')) (M xs) (sym (step x xs) ∙ e))

@@ -1,13 +1,11 @@
 -- The flips of single memberships that alter a formatted text, and the call that lists them: document 02, (viii).
-use Rattle.std.specs.Prelude.{Bool, true, false, ◌&&◌, not, List, [], ◌∷◌, ℕ, zero, suc, ◌/◌, ◌%◌, ◌^◌, eqb, get_or, set}
+use Rattle.std.specs.Prelude.{Bool, true, false, ◌&&◌, not, List, [], ◌∷◌, ℕ, zero, suc, ◌/◌, ◌%◌, ◌^◌, eqb, get_or, set, Err, Result}
 use Rattle.std.specs.Bool.{beq}
 use Rattle.std.specs.Int.Bits.{bit_xor}
 use Rattle.base.specs.Lists.{filter}
 use Rattle.base.specs.Refusals.{After, or_else, unwritten}
 use Rattle.base.specs.declared.Refusal.{Refusal}
 use Rattle.base.specs.Tables.{fill_table}
-use Rattle.base.specs.declared.ListAnswer.{ListAnswer}
-use Rattle.base.specs.declared.ListAnswer.TheVariants.{Refused}
 use Rattle.emoji.specs.UnicodeData.{variation_entries}
 use Rattle.policy_key_set.specs.Sets.{entry_count}
 use Rattle.policy_key_set.specs.declared.PolicyKeySet.{PolicyKeySet}
@@ -107,7 +105,7 @@ unfoldable pub tip_numbers : Membership → List ℕ
 tip_numbers m = code_point m ∷ digit m.keycap ∷ digit m.as_text ∷ []
 
 -- "It goes into a lent table, with refusal 7 and the number of such flips if the table is short": refusals 1, 2, 3 and 7.
-unfoldable pub list_tips : List ℕ → List ℕ → List ℕ → After ListAnswer ℕ
+unfoldable pub list_tips : List ℕ → List ℕ → List ℕ → After (Result ℕ Refusal) ℕ
 list_tips text policy table =
-    or_else (intake_refusal text policy) (λ (r : Refusal). unwritten (Refused r) table)
+    or_else (intake_refusal text policy) (λ (r : Refusal). unwritten (Err r) table)
     (fill_table tip_numbers 24 (tipping text policy) table)

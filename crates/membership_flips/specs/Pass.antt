@@ -1,5 +1,6 @@
 -- The pass over a text as the code makes it: a flag for each entry, each domain, and each first selector or none. Then the memberships by
 -- number, and the test that the code makes for each.
+use Rattle.emoji.specs.declared.presentation.Presentation.{Presentation}
 use Rattle.std.specs.Prelude.{
   ◌≡◌,
   Bool,
@@ -22,12 +23,12 @@ use Rattle.std.specs.Prelude.{
   drop,
   get_or,
   set,
+  Some,
+  None,
+  Option,
 }
 use Rattle.utf8.specs.Rfc3629.{chars}
 use Rattle.emoji.specs.UnicodeData.{variation_entries}
-use Rattle.emoji.specs.declared.VariationSequenceIndex.{VariationSequenceIndex}
-use Rattle.emoji.specs.declared.VariationSequenceIndex.TheVariants as Index
-use Rattle.emoji.specs.declared.presentation.FromSelector.{FromSelector}
 use Rattle.policy_key_set.specs.Sets.{entry_count}
 use Rattle.policy.specs.Policy.{holds_entry}
 use Rattle.policy.specs.PolicyBytes.{policy_of}
@@ -44,11 +45,11 @@ use Rattle.membership_flips.specs.Uses.{matters, occurs}
 -- ---- flags
 
 -- The index of a flag.
-unfoldable pub flag_index : ℕ → Bool → FromSelector → ℕ
+unfoldable pub flag_index : ℕ → Bool → Option Presentation → ℕ
 flag_index i keycap f = 6 * i + (3 * digit keycap + selector_number f)
 
 -- A flag is set.
-unfoldable pub flagged : List ℕ → ℕ → Bool → FromSelector → Bool
+unfoldable pub flagged : List ℕ → ℕ → Bool → Option Presentation → Bool
 flagged flags i keycap f = not (eqb (get_or flags (flag_index i keycap f) 0) 0)
 
 -- The policy decides a base before a character of this class: no modifier and no tags follow.
@@ -61,20 +62,20 @@ with_entry t i flags =
     cond (is_judged (following (cells t))) (set flags (flag_index i (by_keycap (following (cells t))) (first_asked (leading t))) 1) flags
 
 -- The flags after any character. The characters t follow it.
-abbrev pub with_char : VariationSequenceIndex → List ℕ → List ℕ → List ℕ
-with_char (Index.At i) t flags = with_entry t i flags
-with_char Index.NoEntry t flags = flags
+abbrev pub with_char : Option ℕ → List ℕ → List ℕ → List ℕ
+with_char (Some i) t flags = with_entry t i flags
+with_char None t flags = flags
 
 -- The flags say what occurs in a text.
 abbrev pub FlagsTell : List ℕ → List ℕ → Type 0
 FlagsTell text flags =
-    (i : ℕ) → i < entry_count → (keycap : Bool) (f : FromSelector)
+    (i : ℕ) → i < entry_count → (keycap : Bool) (f : Option Presentation)
     → flagged flags i keycap f ≡ occurs (get_or variation_entries i 0) keycap (cells (chars text)) f
 
 -- Between two offsets are whole characters, and what occurs from the one on occurs from the other on.
 pub record NoEntryBetween (text : List ℕ) (from to : ℕ) : Type 0 where
   pub advances : Advances text from to
-  pub same : (i : ℕ) → i < entry_count → (keycap : Bool) (f : FromSelector)
+  pub same : (i : ℕ) → i < entry_count → (keycap : Bool) (f : Option Presentation)
       → occurs (get_or variation_entries i 0) keycap (cells (chars (drop from text))) f
       ≡ occurs (get_or variation_entries i 0) keycap (cells (chars (drop to text))) f
 

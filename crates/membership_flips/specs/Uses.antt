@@ -1,8 +1,7 @@
 -- Which flips tip a text, by one pass over its cells (crate analysis, specs/Cells.antt). That it is the same: Theorems, TipsByUse.
-use Rattle.std.specs.Prelude.{Bool, true, false, ◌&&◌, ◌||◌, cond, not, List, [], ◌∷◌, ℕ, eqb}
+use Rattle.emoji.specs.declared.presentation.Presentation.{Presentation}
+use Rattle.std.specs.Prelude.{Bool, true, false, ◌&&◌, ◌||◌, cond, not, List, [], ◌∷◌, ℕ, eqb, Some, None, Option}
 use Rattle.std.specs.Bool.{beq}
-use Rattle.emoji.specs.declared.presentation.FromSelector.{FromSelector}
-use Rattle.emoji.specs.declared.presentation.FromSelector.TheVariants.{NoSelector, Selector}
 use Rattle.emoji.specs.declared.presentation.Presentation.TheVariants.{Emoji, Text}
 use Rattle.scanner.specs.declared.char_class.Class.{Class}
 use Rattle.analysis.specs.Analysis.{following}
@@ -15,23 +14,23 @@ unfoldable pub judged_in : Bool → Class → Bool
 judged_in keycap k = not (by_modifier k) && (not (by_tags k) && beq (by_keycap k) keycap)
 
 -- The same first selector, or none in both.
-abbrev pub same_first : FromSelector → FromSelector → Bool
-same_first NoSelector NoSelector = true
-same_first NoSelector (Selector q) = false
-same_first (Selector q) NoSelector = false
-same_first (Selector Text) (Selector Text) = true
-same_first (Selector Text) (Selector Emoji) = false
-same_first (Selector Emoji) (Selector Text) = false
-same_first (Selector Emoji) (Selector Emoji) = true
+abbrev pub same_first : Option Presentation → Option Presentation → Bool
+same_first None None = true
+same_first None (Some q) = false
+same_first (Some q) None = false
+same_first (Some Text) (Some Text) = true
+same_first (Some Text) (Some Emoji) = false
+same_first (Some Emoji) (Some Text) = false
+same_first (Some Emoji) (Some Emoji) = true
 
 -- Among the cells is a base of this code point that the policy decides in this domain, with this first selector, or with none.
-unfoldable pub occurs : ℕ → Bool → List Cell → FromSelector → Bool
+unfoldable pub occurs : ℕ → Bool → List Cell → Option Presentation → Bool
 occurs c keycap [] f = false
 occurs c keycap (x ∷ xs) f =
     (eqb x.char c && judged_in keycap (following xs)) && same_first f (first_asked x.after) || occurs c keycap xs f
 
 -- A flip in `prefer_bare` or in `bare_as_text` matters, by whether the two sets hold the entry and by what occurs.
-unfoldable pub matters : Bool → Bool → Bool → (FromSelector → Bool) → Bool
-matters false prefers is_text uses = uses NoSelector || cond is_text (uses (Selector Text)) (uses (Selector Emoji))
-matters true false is_text uses = uses NoSelector
-matters true true is_text uses = uses (Selector Text) || uses (Selector Emoji)
+unfoldable pub matters : Bool → Bool → Bool → (Option Presentation → Bool) → Bool
+matters false prefers is_text uses = uses None || cond is_text (uses (Some Text)) (uses (Some Emoji))
+matters true false is_text uses = uses None
+matters true true is_text uses = uses (Some Text) || uses (Some Emoji)

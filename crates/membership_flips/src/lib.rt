@@ -8,7 +8,7 @@ mod plain;
 
 ghost use Rattle.std.specs.Prelude.{◌≡◌, true, ◌||◌, cond, [], ◌+◌, ◌/◌, ◌%◌, ◌<◌, ◌≤◌, get_or, length};
 ghost use Rattle.base.specs.Lists.{filter};
-ghost use Rattle.base.specs.Answers.{EndsAs, list_row};
+ghost use Rattle.base.specs.Answers.{EndsAs, answer_row};
 ghost use Rattle.base.specs.Output.{PutAt};
 ghost use Rattle.base.specs.Tables.{fill_table, rows_bytes};
 ghost use Rattle.base.specs.Words.{bytes_of};
@@ -16,8 +16,8 @@ ghost use Rattle.emoji.specs.UnicodeData.{variation_entries};
 ghost use Rattle.membership_flips.specs.Flips.{list_tips, tip_numbers};
 ghost use Rattle.membership_flips.specs.Pass.{matters_for, membership_at, numbered, tip_test};
 
-use base::{Check, ListAnswer, Refusal, WORD_BYTES};
-use emoji::presentation::{FromSelector, Presentation};
+use base::{Refusal, WORD_BYTES};
+use emoji::presentation::Presentation;
 use formatter::intake::first_tests;
 use pass::{FLAGS, flag_uses, is_flagged};
 use policy::SingletonRule;
@@ -32,43 +32,16 @@ const TIP_NUMBERS: usize = 3;
 // How many bytes a row has.
 const TIP_BYTES: usize = TIP_NUMBERS * WORD_BYTES;
 
-// Whether one of two tests passed.
-fn either(a: bool, b: bool) -> bool
-    ensures { result ≡ a || b }
-{
-    if a {
-        return true;
-    }
-    b
-}
-
-// The first of two tests, or the second.
-fn choose(first: bool, a: bool, b: bool) -> bool
-    ensures { result ≡ cond first a b }
-{
-    if first {
-        return a;
-    }
-    b
-}
-
-// 1 where a test passed, else 0.
-fn one_if(passed: bool) -> usize
-    ensures { (result ≡ cond passed 1 0) × (result ≤ 1) }
-{
-    if passed { 1 } else { 0 }
-}
-
 // Whether a flip in `bare_as_text`, or in `prefer_bare`, alters the text, by the policy's rule for the entry and by how the text uses it:
 // bare, with FE0E first, with FE0F first.
 fn matters_for(rule: SingletonRule, as_text: bool, bare: bool, text: bool, emoji: bool) -> bool
     ensures { result ≡ matters_for rule as_text bare text emoji }
 {
     match rule {
-        SingletonRule::BareToEmoji => choose(as_text, bare, either(bare, emoji)),
-        SingletonRule::BareToText => choose(as_text, bare, either(bare, text)),
-        SingletonRule::EmojiToBare => choose(as_text, either(text, emoji), either(bare, emoji)),
-        SingletonRule::TextToBare => choose(as_text, either(text, emoji), either(bare, text)),
+        SingletonRule::BareToEmoji | SingletonRule::BareToText if as_text => bare,
+        SingletonRule::EmojiToBare | SingletonRule::TextToBare if as_text => text || emoji,
+        SingletonRule::BareToEmoji | SingletonRule::EmojiToBare => bare || emoji,
+        SingletonRule::BareToText | SingletonRule::TextToBare => bare || text,
     }
 }
 
@@ -80,20 +53,10 @@ fn is_tip(policy: &[u8], flags: &[u8], n: usize) -> bool
     let index = n / 4;
     let is_keycap = n / 2 % 2 == 1;
     let as_text = n % 2 == 1;
-    let bare = is_flagged(flags, index, is_keycap, FromSelector::NoSelector);
-    let text = is_flagged(
-        flags,
-        index,
-        is_keycap,
-        FromSelector::Selector(Presentation::Text),
-    );
-    let emoji = is_flagged(
-        flags,
-        index,
-        is_keycap,
-        FromSelector::Selector(Presentation::Emoji),
-    );
-    if !either(bare, either(text, emoji)) {
+    let bare = is_flagged(flags, index, is_keycap, None);
+    let text = is_flagged(flags, index, is_keycap, Some(Presentation::Text));
+    let emoji = is_flagged(flags, index, is_keycap, Some(Presentation::Emoji));
+    if !bare && !text && !emoji {
         return false;
     }
     let rule = rule_at(policy, index, is_keycap);
@@ -106,10 +69,8 @@ fn count_tips(policy: &[u8], flags: &[u8]) -> usize
     ensures { result ≡ length (filter (tip_test policy.now flags.now) (numbered 1416 0)) }
 {
     let mut count = 0;
-    let mut n = 0;
-    while n < MEMBERSHIPS {
-        count += one_if(is_tip(policy, flags, n));
-        n += 1;
+    for n in 0..MEMBERSHIPS {
+        count += usize::from(is_tip(policy, flags, n));
     }
     count
 }
@@ -142,43 +103,39 @@ fn put_tips(policy: &[u8], flags: &[u8], table: &mut [u8]) -> usize
         (rows_bytes tip_numbers (filter (tip_test policy.now flags.now) (numbered 1416 0))) table.new result }
 {
     let mut at = 0;
-    let mut n = 0;
-    while n < MEMBERSHIPS {
+    for n in 0..MEMBERSHIPS {
         let wanted = is_tip(policy, flags, n);
         at = put_tip(table, at, wanted, n);
-        n += 1;
     }
     at
 }
 
 // Lists the memberships whose flip alters the text, if the table has a place for each.
-fn fill_table(policy: &[u8], flags: &[u8], table: &mut [u8]) -> ListAnswer
+fn fill_table(policy: &[u8], flags: &[u8], table: &mut [u8]) -> Result<usize, Refusal>
     requires { length flags.now ≡ 2124 }
     ensures { record { answer = result; buffer = table.new }
         ≡ fill_table tip_numbers 24 (filter (tip_test policy.now flags.now) (numbered 1416 0)) table.old }
 {
     let findings = count_tips(policy, flags);
     if findings == 0 {
-        return ListAnswer::Listed { findings };
+        return Ok(findings);
     }
     if table.len() / TIP_BYTES < findings {
-        return ListAnswer::Refused(Refusal::TableTooShort { findings });
+        return Err(Refusal::TableTooShort { findings });
     }
     put_tips(policy, flags, table);
-    ListAnswer::Listed { findings }
+    Ok(findings)
 }
 
 // Lists the memberships of a policy whose flip alone alters the formatted text. The text and the policy are given as bytes.
-pub fn list_tips(text: &[u8], policy: &[u8], table: &mut [u8]) -> ListAnswer
-    ensures { EndsAs list_row (list_tips text.now policy.now table.old) result table.new }
+pub fn list_tips(text: &[u8], policy: &[u8], table: &mut [u8]) -> Result<usize, Refusal>
+    ensures { EndsAs answer_row (list_tips text.now policy.now table.old) result table.new }
 {
-    if let Check::Refused(refusal) = first_tests(text, policy) {
-        return ListAnswer::Refused(refusal);
-    }
+    first_tests(text, policy)?;
     let mut flags = [0u8; FLAGS];
     let valid_up_to = flag_uses(text, &mut flags);
     if valid_up_to != text.len() {
-        return ListAnswer::Refused(Refusal::NotWellFormed { valid_up_to });
+        return Err(Refusal::NotWellFormed { valid_up_to });
     }
     fill_table(policy, &flags, table)
 }

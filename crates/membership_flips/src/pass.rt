@@ -4,51 +4,43 @@ ghost use Rattle.std.specs.Prelude.{◌≡◌, ℕ, ◌<◌, ◌≤◌, drop, ge
 ghost use Rattle.utf8.specs.Rfc3629.{chars, valid_up_to_of};
 ghost use Rattle.emoji.specs.Unicode.{variation_sequence_index};
 ghost use Rattle.analysis.specs.Rules.{selector_number};
-ghost use Rattle.membership_flips.specs.Flips.{digit};
 ghost use Rattle.membership_flips.specs.Pass.{FlagsTell, flag_index, flagged, is_judged, with_char, with_entry};
 
 use crate::plain::skip_plain;
 use analysis::singleton::{class_at, is_keycap};
-use emoji::VariationSequenceIndex;
-use emoji::presentation::{FromSelector, Presentation};
+use emoji::presentation::Presentation;
 use scanner::char_class::Class;
 use scanner::selectors::{selector_at, selectors_end};
 
 // The number of flags: 354 entries, two domains, and no selector or one of two.
 pub(crate) const FLAGS: usize = 2124;
 
-// The number of a domain.
-fn digit_of(is_keycap: bool) -> usize
-    ensures { (result ≡ digit is_keycap) × (result ≤ 1) }
-{
-    if is_keycap { 1 } else { 0 }
-}
-
 // A selector, or none, by number.
-fn number_of(first: FromSelector) -> usize
+fn number_of(first: Option<Presentation>) -> usize
     ensures { (result ≡ selector_number first) × (result ≤ 2) }
 {
     match first {
-        FromSelector::NoSelector => 0,
-        FromSelector::Selector(presentation) => match presentation {
-            Presentation::Text => 1,
-            Presentation::Emoji => 2,
-        },
+        None => 0,
+        Some(Presentation::Text) => 1,
+        Some(Presentation::Emoji) => 2,
     }
 }
 
 // The index of a flag.
-fn flag_index(index: usize, is_keycap: bool, first: FromSelector) -> usize
+fn flag_index(index: usize, is_keycap: bool, first: Option<Presentation>) -> usize
     requires { index < 354 }
     ensures { (result ≡ flag_index index is_keycap first) × (result < 2124) }
 {
-    let domain = digit_of(is_keycap);
-    let number = number_of(first);
-    6 * index + (3 * domain + number)
+    6 * index + (3 * usize::from(is_keycap) + number_of(first))
 }
 
 // Whether a flag is set.
-pub(crate) fn is_flagged(flags: &[u8], index: usize, is_keycap: bool, first: FromSelector) -> bool
+pub(crate) fn is_flagged(
+    flags: &[u8],
+    index: usize,
+    is_keycap: bool,
+    first: Option<Presentation>,
+) -> bool
     requires { (index < 354) × (length flags.now ≡ 2124) }
     ensures { result ≡ flagged flags.now index is_keycap first }
 {
@@ -57,14 +49,11 @@ pub(crate) fn is_flagged(flags: &[u8], index: usize, is_keycap: bool, first: Fro
 }
 
 // Whether the policy decides a base (rule 6) before a character of this class.
+#[tactic(auto, unfolding(crate::specs::Pass::is_judged, analysis::specs::Rules::by_modifier, analysis::specs::Rules::by_tags,))]
 fn is_judged(class: Class) -> bool
     ensures { result ≡ is_judged class }
 {
-    match class {
-        Class::Modifier => false,
-        Class::Tag => false,
-        _ => true,
-    }
+    !matches!(class, Class::Modifier | Class::Tag)
 }
 
 // Sets the flag of an entry whose selectors begin at the offset `at`, if the policy decides it there.
@@ -87,10 +76,8 @@ fn flag_char(text: &[u8], at: usize, ch: u32, flags: &mut [u8])
     requires { length flags.old ≡ 2124 }
     ensures { flags.new ≡ with_char (variation_sequence_index ch) (chars (drop at text.now)) flags.old }
 {
-    let index = emoji::variation_sequence_index_by_block(ch);
-    match index {
-        VariationSequenceIndex::At(i) => flag_entry(text, at, i, flags),
-        VariationSequenceIndex::NoEntry => {}
+    if let Some(index) = emoji::variation_sequence_index_by_block(ch) {
+        flag_entry(text, at, index, flags);
     }
 }
 

@@ -29,16 +29,15 @@ fn is_ascii_plain(byte: u8) -> bool
 
 // Skips ASCII characters without a variation entry.
 fn skip_ascii(text: &[u8], from: usize) -> usize
+    requires { from ≤ length text.now }
     ensures { NoEntryBetween text.now from result }
 {
-    let mut at = from;
-    while at < text.len() {
+    for at in from..text.len() {
         if !is_ascii_plain(text[at]) {
             return at;
         }
-        at += 1;
     }
-    at
+    text.len()
 }
 
 // Whether the character at an offset has no variation entry by its first bytes: it has two bytes and is at least C0, or it has three bytes

@@ -1,7 +1,7 @@
 -- A mending call by its parts: the text that it writes, and the tests of the decisions for the finding at the offset.
+use Rattle.std.specs.Prelude.{Ok, Err, Result, Option, Some, None}
 use mathlib.Core.Path.{◌≡◌, refl, ap, ap₂, sym, ◌∙◌}
 use mathlib.Core.List.{List, [], ◌∷◌, ◌++◌, append-nil, map}
-use mathlib.Core.Option.{Option, none, some}
 use Prim.Native.Nat.{ℕ, ◌+◌, ◌*◌, ◌-◌, ◌≤◌, ◌<◌}
 use native.Mathlib.Omega.{arith}
 use lib.ListN.{drop, length, length-append, length-drop, take, take-append-drop}
@@ -21,8 +21,6 @@ use Rattle.analysis.specs.Analysis.{non_canonicality, render, replacement}
 use Rattle.analysis.specs.CellView.{total_cells}
 use Rattle.analysis.specs.Cells.{cells}
 use Rattle.analysis.specs.Decisions.{decisions_refusal, judge, meaning, within_limit, write_out}
-use Rattle.analysis.specs.declared.types.MendAnswer.{MendAnswer}
-use Rattle.analysis.specs.declared.types.MendAnswer.TheVariants.{Mended, Refused}
 use Rattle.analysis.specs.declared.types.NonCanonicality.{NonCanonicality}
 use Rattle.analysis.specs.Findings.{finding_at, findings_from}
 use Rattle.analysis.proofs.Items.{finding_no_passthrough}
@@ -68,7 +66,7 @@ module _ (p : Policy) (text : List ℕ) (start : ℕ) (decisions : List ℕ) {en
   )
 
   pub exchange_short : length out < start + n + (length text - end)
-      → unwritten (Refused (OutputTooShort (start + n + (length text - end)))) out ≡ write_out R out
+      → unwritten (Err (OutputTooShort (start + n + (length text - end)))) out ≡ write_out R out
   exchange_short l = out_short R out _ wanted_is l
 
   -- Written into a buffer of their own length, the cells fill it.
@@ -82,9 +80,9 @@ module _ (p : Policy) (text : List ℕ) (start : ℕ) (decisions : List ℕ) {en
   -- The bytes before and after the part are put into the output, and the cells are written between them.
   pub exchange_written : start + n + (length text - end) ≤ length out → {k : ℕ} → k ≡ n
       → {o : List ℕ} → o ≡ sets (sets out 0 (take start text)) (start + n) (drop end text)
-      → {w : MendAnswer} {b : List ℕ} → record { answer = w; buffer = b }
+      → {w : Result ℕ Refusal} {b : List ℕ} → record { answer = w; buffer = b }
       ≡ within_limit (part text start end) (take k (drop start o)) (write_out B (take k (drop start o)))
-      → record { answer = Mended (start + n + (length text - end)); buffer = take start o ++ (b ++ drop k (drop start o)) }
+      → record { answer = Ok (start + n + (length text - end)); buffer = take start o ++ (b ++ drop k (drop start o)) }
       ≡ write_out R out
   exchange_written l {k} f {o} c {w} {b} r =
       let a = take start text in
@@ -92,7 +90,7 @@ module _ (p : Policy) (text : List ℕ) (start : ℕ) (decisions : List ℕ) {en
       let q = take k (drop start o) in
       let whole : length o ≡ length out = ap length c ∙ length-sets (sets out 0 a) (start + n) d ∙ length-sets out 0 a in
       let filled : length q ≡ n = length-take-le k (drop start o) (omega (arith, length-drop start o)) ∙ f in
-      let m : b ≡ B = ap (λ (a : After MendAnswer ℕ). a.buffer) (part-written text q start end h r) ∙ part_filled q filled in
+      let m : b ≡ B = ap (λ (a : After (Result ℕ Refusal) ℕ). a.buffer) (part-written text q start end h r) ∙ part_filled q filled in
       let z = between a B d out start_length (sym g) (omega (arith, length-drop end text)) in
       let v : take start o ++ (b ++ drop k (drop start o)) ≡ R ++ drop (length R) out =
       ap₂ (λ (b : List ℕ) (k : ℕ). take start o ++ (b ++ drop k (drop start o))) m f
@@ -102,7 +100,7 @@ module _ (p : Policy) (text : List ℕ) (start : ℕ) (decisions : List ℕ) {en
   -- If the written cells have no bytes, the output has only the bytes before and after the part.
   pub exchange_nothing : n ≡ 0 → start + n + (length text - end) ≤ length out → {o : List ℕ} → o
       ≡ sets (sets out 0 (take start text)) (start + n) (drop end text)
-      → record { answer = Mended (start + n + (length text - end)); buffer = o } ≡ write_out R out
+      → record { answer = Ok (start + n + (length text - end)); buffer = o } ≡ write_out R out
   exchange_nothing f l {o} c =
       let b : B ≡ [] = nothing B (sym g ∙ f) in
       let z = between (take start text) B (drop end text) out start_length (sym g) (omega (arith, length-drop end text)) in
@@ -129,12 +127,12 @@ module _ (policy text : List ℕ) (acc : Accepted policy text) (offset : ℕ) (d
       → (out : List ℕ) → mend text policy offset decisions out ≡ judge P x decisions (exchanged text P offset ds x) out
   unfolding mend findings
   mend-by e out =
-      let f : Option Item → After MendAnswer ℕ = λ x. judge P x decisions (exchanged text P offset ds x) out in
-      ap (λ (o : Option Refusal). or_else o (λ (r : Refusal). unwritten (Refused r) out) (f (finding_at offset (findings text policy))))
+      let f : Option Item → After (Result ℕ Refusal) ℕ = λ x. judge P x decisions (exchanged text P offset ds x) out in
+      ap (λ (o : Option Refusal). or_else o (λ (r : Refusal). unwritten (Err r) out) (f (finding_at offset (findings text policy))))
       (pass_intake policy text acc)
       ∙ ap f e
 
-  pub mend-nothing : finding_at offset (findings_from P text 0) ≡ none → (out : List ℕ) → unwritten (Refused NoFinding) out
+  pub mend-nothing : finding_at offset (findings_from P text 0) ≡ None → (out : List ℕ) → unwritten (Err NoFinding) out
       ≡ mend text policy offset decisions out
   unfolding judge
   mend-nothing e out = sym (mend-by e out)
@@ -142,8 +140,8 @@ module _ (policy text : List ℕ) (acc : Accepted policy text) (offset : ℕ) (d
   -- A finding starts at the offset and ends at `end`. The counts of its bytes decide how many decisions it wants.
   pub mend-tested : {end : ℕ} → Starts P text offset end → {q : Policy} → q ≡ P → {n : NonCanonicality} → n
       ≡ total_cells q (chars (part text offset end))
-      → {t : Option Refusal} → decisions_refusal n.presentation_decisions decisions ≡ t → (out : List ℕ) {a : After MendAnswer ℕ}
-      → a ≡ or_else t (λ (r : Refusal). unwritten (Refused r) out)
+      → {t : Option Refusal} → decisions_refusal n.presentation_decisions decisions ≡ t → (out : List ℕ) {a : After (Result ℕ Refusal) ℕ}
+      → a ≡ or_else t (λ (r : Refusal). unwritten (Err r) out)
       (write_out (with_cells_written q text offset end ds) out)
       → a ≡ mend text policy offset decisions out
   unfolding judge
@@ -156,9 +154,9 @@ module _ (policy text : List ℕ) (acc : Accepted policy text) (offset : ℕ) (d
       let w : cells_written q text offset end ds ≡ encode_all (replacement P x ds) =
       ap (λ (q : Policy). cells_written q text offset end ds) r ∙ item-written P text offset h.items_are o h.end_is ds in
       let k : end ≡ offset + length (encode_all x.chars) = omega (arith, h.end_is, size-width x.chars) in
-      e ∙ ap₂ (λ (b : List ℕ) (k : ℕ). or_else t (λ (r : Refusal). unwritten (Refused r) out)
+      e ∙ ap₂ (λ (b : List ℕ) (k : ℕ). or_else t (λ (r : Refusal). unwritten (Err r) out)
       (write_out (take offset text ++ b ++ drop k text) out)) w k
-      ∙ ap (λ (t : Option Refusal). or_else t (λ (r : Refusal). unwritten (Refused r) out)
-      (write_out (exchanged text P offset ds (some x)) out))
+      ∙ ap (λ (t : Option Refusal). or_else t (λ (r : Refusal). unwritten (Err r) out)
+      (write_out (exchanged text P offset ds (Some x)) out))
       (sym d ∙ ap (λ (n : NonCanonicality). decisions_refusal n.presentation_decisions decisions) m)
       ∙ sym (mend-by s.found out)

@@ -1,8 +1,8 @@
 -- The finding that starts at an offset, if there is one, is the first that ends after the offset.
+use Rattle.std.specs.Prelude.{Some}
 use mathlib.Core.Path.{◌≡◌, refl, ap, sym, ◌∙◌}
 use mathlib.Core.Bool.{Bool, true, false, cond, true≢false}
 use mathlib.Core.List.{List}
-use mathlib.Core.Option.{some}
 use Prim.Native.Nat.{ℕ, ◌+◌}
 use native.Mathlib.Omega.{arith}
 use lib.Dec.{eqb}
@@ -25,15 +25,15 @@ skips_findings_at : (o : ℕ) {n : ℕ} {fs gs : List Found} → SkipsFindings o
 unfolding finding_at
 skips_findings_at o none_skipped = refl
 skips_findings_at o (one_skipped {f} {fs} h k a) =
-    ap (λ (b : Bool). cond b (some f.item) (finding_at o fs)) (ne_eqb f.start o (λ e. omega arith)) ∙ skips_findings_at o a
+    ap (λ (b : Bool). cond b (Some f.item) (finding_at o fs)) (ne_eqb f.start o (λ e. omega arith)) ∙ skips_findings_at o a
 
 module _ {p : Policy} {text : List ℕ} where
   module _ (o : ℕ) {start end : ℕ} (h : Finds p text start end) where
     -- The finding at the offset o is this one if it starts there, else one of the findings after it.
     finding-by : {b : Bool} → eqb start o ≡ b → finding_at o (findings_from p text start)
-        ≡ cond b (some h.item) (finding_at o (findings_from p text end))
+        ≡ cond b (Some h.item) (finding_at o (findings_from p text end))
     unfolding finding_at
-    finding-by e = ap (finding_at o) (finds_here h) ∙ ap (λ (b : Bool). cond b (some h.item) (finding_at o (findings_from p text end))) e
+    finding-by e = ap (finding_at o) (finds_here h) ∙ ap (λ (b : Bool). cond b (Some h.item) (finding_at o (findings_from p text end))) e
 
     starts-here : start ≡ o → finding_at o (findings_from p text 0) ≡ finding_at o (findings_from p text start) → Starts p text o end
     starts-here e i = record {

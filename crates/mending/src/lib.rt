@@ -4,27 +4,27 @@
 
 ghost use Rattle.std.specs.Prelude.{◌≡◌, map, ◌+◌, ◌-◌, ◌≤◌, drop, length, take};
 ghost use Rattle.std.proofs.lemmas.List.Edits.{sets};
-ghost use Rattle.base.specs.Answers.{EndsAs};
+ghost use Rattle.base.specs.Answers.{EndsAs, answer_row};
 ghost use Rattle.base.specs.Refusals.{text_limit};
 ghost use Rattle.utf8.specs.Rfc3629.{valid_up_to_of};
 ghost use Rattle.policy.specs.PolicyBytes.{policy_of};
-ghost use Rattle.analysis.specs.Decisions.{meaning, mend_row, write_out};
+ghost use Rattle.analysis.specs.Decisions.{meaning, write_out};
 ghost use Rattle.formatter.specs.Demand3.{Accepted};
 ghost use Rattle.formatter.specs.Mend.{mend};
 ghost use Rattle.mending.specs.Parts.{FindingStarting, Starts, cells_written, with_cells_written};
 
-use analysis::types::MendAnswer;
-use base::{Check, Refusal};
+use base::Refusal;
 use formatter::intake::first_tests;
-use policy::{Policy, ReadPolicy};
+use policy::Policy;
 use replacing::decisions::check_decisions;
 use replacing::measure::{Measure, measure_cells};
 use replacing::render::write_cells;
 use text_pass::findings::next_finding;
 
 // Whether a finding starts at a given offset, and where the search for it ended: at the end of the first finding that ends after the
-// offset, or at the end of the longest well-formed beginning. Up to `end` the text is well-formed.
-#[derive(Clone, Copy)]
+// offset, or at the end of the longest well-formed beginning. Up to `end` the text is well-formed. `end` counts in both cases, so an
+// `Option` would not hold it.
+#[derive(Clone, Copy, Debug, PartialEq, Eq)]
 struct FindingStart {
     end: usize,
     present: bool,
@@ -37,15 +37,10 @@ fn finding_starting(text: &[u8], policy: &[u8], offset: usize) -> FindingStart
         × (result.end + valid_up_to_of (drop result.end text.now) ≡ valid_up_to_of text.now) }
 {
     let next = next_finding(text, policy, offset, 0);
-    let end = next.end;
-    if !next.present {
-        return FindingStart {
-            end,
-            present: false,
-        };
+    FindingStart {
+        end: next.end,
+        present: next.present && next.start == offset,
     }
-    let present = next.start == offset;
-    FindingStart { end, present }
 }
 
 // Puts the bytes of a text before `start` and those from `end` on into the output, with `len` bytes between them.
@@ -68,7 +63,7 @@ fn exchange(
     policy: Policy,
     decisions: &[u8],
     out: &mut [u8],
-) -> MendAnswer
+) -> Result<usize, Refusal>
     requires { (start ≤ end) × (end ≤ length text.now) × (length text.now ≤ text_limit)
         × (len ≡ length (cells_written policy text.now start end (map meaning decisions.now))) }
     ensures { record { answer = result; buffer = out.new }
@@ -77,14 +72,14 @@ fn exchange(
     let stop = start + len;
     let wanted = stop + (text.len() - end);
     if out.len() < wanted {
-        return MendAnswer::Refused(Refusal::OutputTooShort { wanted });
+        return Err(Refusal::OutputTooShort { wanted });
     }
     put_around(text, start, end, len, out);
     if len == 0 {
-        return MendAnswer::Mended { len: wanted };
+        return Ok(wanted);
     }
-    write_cells(&text[start..end], policy, decisions, &mut out[start..stop]);
-    MendAnswer::Mended { len: wanted }
+    write_cells(&text[start..end], policy, decisions, &mut out[start..stop])?;
+    Ok(wanted)
 }
 
 // Mends the finding from `offset` up to `end` of an accepted text, if the decisions are valid and the output has room.
@@ -95,19 +90,14 @@ fn mend_finding(
     end: usize,
     decisions: &[u8],
     out: &mut [u8],
-) -> MendAnswer
+) -> Result<usize, Refusal>
     requires { Accepted policy.now text.now × Starts (policy_of policy.now) text.now offset end }
     ensures { record { answer = result; buffer = out.new }
         ≡ mend text.now policy.now offset decisions.now out.old }
 {
-    let ReadPolicy {
-        accepted: _,
-        policy: accepted_policy,
-    } = policy::read_policy(policy);
+    let accepted_policy = policy::read_policy(policy).policy;
     let Measure { counts, len } = measure_cells(&text[offset..end], accepted_policy);
-    if let Check::Refused(refusal) = check_decisions(decisions, counts.presentation_decisions) {
-        return MendAnswer::Refused(refusal);
-    }
+    check_decisions(decisions, counts.presentation_decisions)?;
     exchange(text, offset, end, len, accepted_policy, decisions, out)
 }
 
@@ -118,20 +108,18 @@ pub fn mend(
     offset: usize,
     decisions: &[u8],
     out: &mut [u8],
-) -> MendAnswer
-    ensures { EndsAs mend_row (mend text.now policy.now offset decisions.now out.old) result
+) -> Result<usize, Refusal>
+    ensures { EndsAs answer_row (mend text.now policy.now offset decisions.now out.old) result
         out.new }
 {
-    if let Check::Refused(refusal) = first_tests(text, policy) {
-        return MendAnswer::Refused(refusal);
-    }
+    first_tests(text, policy)?;
     let FindingStart { end, present } = finding_starting(text, policy, offset);
     let valid_up_to = end + utf8_validity::valid_up_to(&text[end..]);
     if valid_up_to != text.len() {
-        return MendAnswer::Refused(Refusal::NotWellFormed { valid_up_to });
+        return Err(Refusal::NotWellFormed { valid_up_to });
     }
     if !present {
-        return MendAnswer::Refused(Refusal::NoFinding);
+        return Err(Refusal::NoFinding);
     }
     mend_finding(text, policy, offset, end, decisions, out)
 }

@@ -3,12 +3,11 @@
 use mathlib.Core.Path.{◌≡◌, ap, sym, ◌∙◌, subst}
 use mathlib.Core.Bool.{Bool, cond}
 use mathlib.Core.List.{List}
-use mathlib.Core.Option.{Option, none, some}
 use Prim.Native.Nat.{ℕ, ◌<◌, ◌≤◌}
 use lib.ListN.{length, length-append}
 use native.Mathlib.Omega.{arith}
 use Rattle.std.specs.Prelude as Prelude
-use Rattle.std.specs.Prelude.{None, Some, Ok, Err, Result, OnOk, IfSome}
+use Rattle.std.specs.Prelude.{None, Some, Ok, Err, Result, OnOk, IfSome, Option}
 use Rattle.std.specs.Io.KnownBytes.{Appends, Consumes}
 use borrow.Author.Tests.{le-leb, lt-leb}
 use Rattle.base.specs.Refusals.{or_else}
@@ -25,10 +24,10 @@ module _ (limit : ℕ) (message : List ℕ) (o : Option Refusal) (result : List 
   unfolding program_output
   short h = sym (ap (λ (b : Bool). cond b (or_else o refusal_line result) (refusal_line TextTooLong)) (le-leb (length message) limit h))
 
-  pub refused : {r : Refusal} → length message ≤ limit → o ≡ some r → refusal_line r ≡ program_output limit message o result
+  pub refused : {r : Refusal} → length message ≤ limit → o ≡ Some r → refusal_line r ≡ program_output limit message o result
   refused h e = sym (ap (λ (o : Option Refusal). or_else o refusal_line result) e) ∙ short h
 
-  pub passed : length message ≤ limit → o ≡ none → result ≡ program_output limit message o result
+  pub passed : length message ≤ limit → o ≡ None → result ≡ program_output limit message o result
   passed h e = sym (ap (λ (o : Option Refusal). or_else o refusal_line result) e) ∙ short h
 
 -- What holds of an Ok, by what is known of it.

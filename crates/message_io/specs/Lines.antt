@@ -1,7 +1,6 @@
 -- The lines that the programs write (document 01, "Programs"): for a finding, for the totals, for a refusal; and the output of a
 -- program.
-use Rattle.std.specs.Prelude.{cond, List, [], ◌∷◌, ◌++◌, map, ℕ, zero, suc, ◌+◌, ◌/◌, ◌%◌, leb, ltb, length}
-use Rattle.std.proofs.Math.Option.{Option}
+use Rattle.std.specs.Prelude.{cond, List, [], ◌∷◌, ◌++◌, map, ℕ, zero, suc, ◌+◌, ◌/◌, ◌%◌, leb, ltb, length, Option}
 use Rattle.base.specs.Texts.{parted}
 use Rattle.base.specs.Refusals.{or_else, refusal_row, returned}
 use Rattle.base.specs.declared.Refusal.{Refusal}

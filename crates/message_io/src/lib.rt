@@ -112,7 +112,7 @@ pub fn put_default_policy(out: &mut [u8; POLICY_BYTES])
     ensures out_len { length out.new ≡ 200 }
     ensures out_after { out.new ≡ policy_bytes default_policy }
 {
-    policy::write_policy(Policy::default(), out);
+    let _ = policy::write_policy(Policy::default(), out);
 }
 
 #[cfg(test)]

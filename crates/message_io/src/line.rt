@@ -8,7 +8,6 @@ ghost use Rattle.base.specs.Refusals.{returned};
 ghost use Rattle.message_io.specs.Lines.{with_blanks, decimal, finding_line, refusal_line, total_line};
 
 use base::Refusal;
-use base::refusals::{refusal_number, refusal_value, returns_value};
 
 // The length of the longest line, with its 0A: ten numbers of up to 20 digits, with a blank or the 0A after each.
 pub const LINE_ROOM: usize = 210;
@@ -89,10 +88,10 @@ fn put_returned(out: &mut [u8], start: usize, refusal: Refusal) -> usize
     requires { start + 21 ≤ length out.old }
     ensures { PutAt out.old start (with_blanks (map decimal (returned refusal))) out.new result × (result ≤ start + 21) }
 {
-    if returns_value(refusal) {
-        return put_number(out, start, refusal_value(refusal));
+    match refusal.value() {
+        Some(value) => put_number(out, start, value),
+        None => start,
     }
-    start
 }
 
 // Writes the line of a refusal. Returns the line's length, which is at most 210.
@@ -103,7 +102,7 @@ pub fn refusal_line(refusal: Refusal, out: &mut [u8; LINE_ROOM]) -> usize
     ensures out_unchanged { drop result out.new ≡ drop result out.old }
 {
     let mut at = put_bytes(out, 0, b"refused");
-    at = put_number(out, at, refusal_number(refusal) as usize);
+    at = put_number(out, at, refusal.number() as usize);
     at = put_returned(out, at, refusal);
     put_bytes(out, at, b"\n")
 }

@@ -1,4 +1,5 @@
 -- The policy's rule for a base by its entry, the ASCII keys, and the bytes that hold both.
+use Rattle.std.specs.Prelude.{Some, None, Option}
 use mathlib.Core.Path.{◌≡◌, refl, sym, ap, ap₂, ◌∙◌}
 use mathlib.Core.Logic.{◌⊎◌, inl, inr, ⊎_elim}
 use mathlib.Core.Bool.{Bool, true, false, beq, cond, not, ◌&&◌, ◌||◌}
@@ -13,8 +14,6 @@ use Rattle.base.proofs.Tests.{and_both, beq_so, both_true, le_or_lt, same_test}
 use Rattle.base.proofs.Words.{number-eight, number_four}
 use Rattle.emoji.specs.Unicode.{has_variation_sequence, variation_sequence_index}
 use Rattle.emoji.specs.UnicodeData.{variation_entries}
-use Rattle.emoji.specs.declared.VariationSequenceIndex.{VariationSequenceIndex}
-use Rattle.emoji.specs.declared.VariationSequenceIndex.TheVariants as Index
 use Rattle.emoji.proofs.Ascent.{is_at}
 use Rattle.policy_key_set.specs.Sets.{all_below, contains, entry_count, member, member_at, word_count}
 use Rattle.policy_key_set.specs.KeySets.{is_ascii, ordinary}
@@ -29,13 +28,13 @@ use Rattle.policy.specs.declared.SingletonRule.TheVariants.{EmojiToBare, TextToB
 use Rattle.policy.proofs.ByteBits.{low_ones}
 
 -- A key set holds a base exactly if it holds the base's entry.
-pub holds-by_entry : (s : PolicyKeySet) (c i : ℕ) (keycap : Bool) → variation_sequence_index c ≡ Index.At i
+pub holds-by_entry : (s : PolicyKeySet) (c i : ℕ) (keycap : Bool) → variation_sequence_index c ≡ Some i
     → holds_base s c keycap ≡ holds_entry s i keycap
 unfolding holds_base holds_entry contains member_at
-holds-by_entry s c i false e = ap (λ (r : VariationSequenceIndex). member_at r s.chars.bits) e
-holds-by_entry s c i true e = ap (λ (r : VariationSequenceIndex). member_at r s.keycap_chars.bits) e
+holds-by_entry s c i false e = ap (λ (r : Option ℕ). member_at r s.chars.bits) e
+holds-by_entry s c i true e = ap (λ (r : Option ℕ). member_at r s.keycap_chars.bits) e
 
-pub rule_by_entry : (p : Policy) (c i : ℕ) (keycap : Bool) → variation_sequence_index c ≡ Index.At i
+pub rule_by_entry : (p : Policy) (c i : ℕ) (keycap : Bool) → variation_sequence_index c ≡ Some i
     → singleton_rule p c keycap ≡ entry_rule p i keycap
 unfolding singleton_rule entry_rule
 rule_by_entry p c i keycap e =
@@ -106,15 +105,15 @@ pub ascii_base_bare : (bs : List ℕ) → ascii_keys_bare bs ≡ true → (c : �
 unfolding ascii_keys_bare holds_entry is_at
 ascii_base_bare bs t c l h = go (variation_sequence_index c) refl (sym (has_index c) ∙ h)
   where
-    go : (r : VariationSequenceIndex) → variation_sequence_index c ≡ r → is_at r ≡ true
+    go : (r : Option ℕ) → variation_sequence_index c ≡ r → is_at r ≡ true
         → holds_base (policy_of bs).prefer_bare c false ≡ true
-    go (Index.At i) e a =
+    go (Some i) e a =
         let p = index_has_place c i e in
         holds-by_entry (policy_of bs).prefer_bare c i false e
         ∙ ap (λ (b : Bool). not b || ordinary (policy_of bs).prefer_bare i)
         (sym (ap is_ascii p.1 ∙ lt-ltb c 0x80 (omega arith)))
         ∙ all_below_lem entry_count (ascii_test (ordinary (policy_of bs).prefer_bare)) t i p.0
-    go Index.NoEntry e a = cc
+    go None e a = cc
 
 -- Then the rule for an ASCII base is one of the two rules whose result is bare.
 pub ascii_rule_bare : (bs : List ℕ) → ascii_keys_bare bs ≡ true → (c : ℕ) → c ≤ 0x7F → has_variation_sequence c ≡ true

@@ -1,4 +1,5 @@
 -- The proof of each statement of specs/Theorems.antt.
+use Rattle.std.specs.Prelude.{Option}
 use mathlib.Core.Path.{◌≡◌, refl, sym, ap, ap₂, ◌∙◌}
 use mathlib.Core.Bool.{Bool, true, false, cond, ◌&&◌, ◌||◌, not}
 use mathlib.Core.List.{List, ◌∷◌, ◌++◌}
@@ -12,7 +13,6 @@ use Rattle.emoji.specs.Tables.{in_ranges, member as Tables·member}
 use Rattle.emoji.specs.Unicode.{has_variation_sequence, is_emoji_default, is_emoji_presentation, is_text_default}
 use Rattle.emoji.specs.UnicodeData.{emoji_presentation_ranges, unicode_version, variation_entries}
 use Rattle.emoji.specs.Theorems.{NoIndexNoEntry}
-use Rattle.emoji.specs.declared.VariationSequenceIndex.{VariationSequenceIndex}
 use Rattle.emoji.proofs.Claims.{no_index_no_entry}
 use Rattle.base.specs.Bits.{one}
 use Rattle.policy_key_set.specs.Sets.{all_below, contains, entry_count, member, member_at, word_count}
@@ -128,7 +128,7 @@ default_rules c h =
 -- A character that is no variation entry is in no set.
 in_none : (c : ℕ) (ws : List ℕ) → has_variation_sequence c ≡ false → contains c ws ≡ false
 unfolding contains member_at NoIndexNoEntry
-in_none c ws h = ap (λ (r : VariationSequenceIndex). member_at r ws) ((no_index_no_entry c).1 h)
+in_none c ws h = ap (λ (r : Option ℕ). member_at r ws) ((no_index_no_entry c).1 h)
 
 pub rule_without_entry : RuleWithoutEntry
 unfolding RuleWithoutEntry singleton_rule holds_base rule_of

@@ -1,9 +1,9 @@
 -- The refusal of bytes that are given as a policy, by the test `is_policy`, and by the three tests in their order.
+use Rattle.std.specs.Prelude.{Some, None, Option}
 use mathlib.Core.Path.{◌≡◌, refl, sym, ap}
 use mathlib.Core.Logic.{◌⊎◌, inl, inr}
 use mathlib.Core.Bool.{Bool, true, false, cond, not, ◌&&◌}
 use mathlib.Core.List.{List}
-use mathlib.Core.Option.{Option, none, some}
 use Prim.Native.Nat.{ℕ}
 use lib.Dec.{eqb}
 use lib.ListN.{length}
@@ -24,19 +24,19 @@ use Rattle.policy.specs.PolicyBytes.{
 }
 
 abbrev by_test : Refusal → Bool → Option Refusal
-by_test f b = cond b none (some f)
+by_test f b = cond b None (Some f)
 
-test_passed : (f : Refusal) (b : Bool) → by_test f b ≡ none → b ≡ true
+test_passed : (f : Refusal) (b : Bool) → by_test f b ≡ None → b ≡ true
 test_passed f true e = refl
 test_passed f false e = cc
 
-test_failed : (f r : Refusal) (b : Bool) → by_test f b ≡ some r → b ≡ false
+test_failed : (f r : Refusal) (b : Bool) → by_test f b ≡ Some r → b ≡ false
 test_failed f r true e = cc
 test_failed f r false e = refl
 
 -- The refusal by the results of the three tests: the number of bytes, the version, the unused bits.
 abbrev by_tests_lem : Bool → Bool → Bool → Option Refusal
-by_tests_lem a b c = cond (a && (b && c)) none (some (cond (a && not b) OtherVersion NotAPolicy))
+by_tests_lem a b c = cond (a && (b && c)) None (Some (cond (a && not b) OtherVersion NotAPolicy))
 
 same_tests : {a b c x y z : Bool} → a ≡ x → b ≡ y → c ≡ z → by_tests_lem a b c ≡ by_tests_lem x y z
 same_tests e f g = cc
@@ -50,19 +50,19 @@ either true e = inr (sym e)
 either false e = inl (sym e)
 
 module _ (bs : List ℕ) where
-  pub policy-passes : is_policy bs ≡ true → policy_refusal bs ≡ none
+  pub policy-passes : is_policy bs ≡ true → policy_refusal bs ≡ None
   unfolding policy_refusal
   policy-passes e = ap (by_test (policy_fault bs)) e
 
-  pub policy-refused : is_policy bs ≡ false → policy_refusal bs ≡ some (policy_fault bs)
+  pub policy-refused : is_policy bs ≡ false → policy_refusal bs ≡ Some (policy_fault bs)
   unfolding policy_refusal
   policy-refused e = ap (by_test (policy_fault bs)) e
 
-  pub passed-policy : policy_refusal bs ≡ none → is_policy bs ≡ true
+  pub passed-policy : policy_refusal bs ≡ None → is_policy bs ≡ true
   unfolding policy_refusal
   passed-policy e = test_passed (policy_fault bs) (is_policy bs) e
 
-  pub refused-policy : (r : Refusal) → policy_refusal bs ≡ some r → is_policy bs ≡ false
+  pub refused-policy : (r : Refusal) → policy_refusal bs ≡ Some r → is_policy bs ≡ false
   unfolding policy_refusal
   refused-policy r e = test_failed (policy_fault bs) r (is_policy bs) e
 
@@ -86,23 +86,23 @@ module _ (bs : List ℕ) where
       (eqb-true (length bs) policy_length a.0, eqb-true (version_of bs) unicode_version b.0, b.1)
 
   -- The first test that fails gives the refusal.
-  pub length_first : (length bs ≡ policy_length → ⊥) → policy_refusal bs ≡ some NotAPolicy
+  pub length_first : (length bs ≡ policy_length → ⊥) → policy_refusal bs ≡ Some NotAPolicy
   unfolding policy_refusal is_policy policy_fault
   length_first h =
       same_tests {b = eqb (version_of bs) unicode_version} {c = no_unused_bits (policy_of bs)} (ne_eqb (length bs) policy_length h) refl
       refl
 
   module _ (h : length bs ≡ policy_length) where
-    pub version-second : (version_of bs ≡ unicode_version → ⊥) → policy_refusal bs ≡ some OtherVersion
+    pub version-second : (version_of bs ≡ unicode_version → ⊥) → policy_refusal bs ≡ Some OtherVersion
     unfolding policy_refusal is_policy policy_fault
     version-second v =
         same_tests {c = no_unused_bits (policy_of bs)} (eq-eqb (length bs) policy_length h) (ne_eqb (version_of bs) unicode_version v) refl
 
     module _ (v : version_of bs ≡ unicode_version) where
-      pub bits-third : no_unused_bits (policy_of bs) ≡ false → policy_refusal bs ≡ some NotAPolicy
+      pub bits-third : no_unused_bits (policy_of bs) ≡ false → policy_refusal bs ≡ Some NotAPolicy
       unfolding policy_refusal is_policy policy_fault
       bits-third u = same_tests (eq-eqb (length bs) policy_length h) (eq-eqb (version_of bs) unicode_version v) u
 
-      pub all_pass : no_unused_bits (policy_of bs) ≡ true → policy_refusal bs ≡ none
+      pub all_pass : no_unused_bits (policy_of bs) ≡ true → policy_refusal bs ≡ None
       unfolding policy_refusal is_policy policy_fault
       all_pass u = same_tests (eq-eqb (length bs) policy_length h) (eq-eqb (version_of bs) unicode_version v) u

@@ -28,8 +28,13 @@ use Rattle.std.specs.Prelude.{
   get_or,
   length,
   take,
+  Some,
+  None,
+  Option,
+  Ok,
+  Err,
+  Result,
 }
-use Rattle.std.proofs.Math.Option.{Option, none, some}
 use Rattle.base.specs.Words.{bytes_of, number}
 use Rattle.base.specs.declared.Refusal.{Refusal}
 use Rattle.base.specs.declared.Refusal.TheVariants.{NotAPolicy, OtherVersion}
@@ -99,11 +104,15 @@ policy_fault bs = cond (eqb (length bs) policy_length && not (eqb (version_of bs
 
 -- The refusal of bytes that are given as a policy, or `none` if they are one.
 unfoldable pub policy_refusal : List ℕ → Option Refusal
-policy_refusal bs = cond (is_policy bs) none (some (policy_fault bs))
+policy_refusal bs = cond (is_policy bs) None (Some (policy_fault bs))
 
 -- The result of reading a policy.
 unfoldable pub read_policy : List ℕ → ReadPolicy
 read_policy bs = record { accepted = is_policy bs; policy = policy_of bs }
+
+-- The policy that bytes encode, or the refusal of bytes that are none.
+unfoldable pub policy_or_fault : List ℕ → Result Policy Refusal
+policy_or_fault bs = cond (is_policy bs) (Ok (policy_of bs)) (Err (policy_fault bs))
 
 -- The set has a 1 among its unused bits: a bit of its W words that belongs to no entry.
 pub record UnusedOne (ws : List ℕ) : Type 0 where

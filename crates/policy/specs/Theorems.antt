@@ -1,11 +1,9 @@
 -- Statements about policies. The proofs are in proofs/Claims.antt.
-use Rattle.std.specs.Prelude.{◌≡◌, ◌↔◌, ◌⊎◌, Bool, true, false, cond, ◌||◌, List, ℕ, get_or, length}
-use Rattle.std.proofs.Math.Option.{none, some}
+use Rattle.std.specs.Prelude.{◌≡◌, ◌↔◌, ◌⊎◌, Bool, true, false, cond, ◌||◌, List, ℕ, get_or, length, Some, None}
 use Rattle.base.specs.Words.{all_bytes}
 use Rattle.base.specs.declared.Refusal.TheVariants.{NotAPolicy, OtherVersion}
 use Rattle.emoji.specs.Unicode.{has_variation_sequence, is_emoji_default, is_text_default, variation_sequence_index}
 use Rattle.emoji.specs.UnicodeData.{unicode_version, variation_entries}
-use Rattle.emoji.specs.declared.VariationSequenceIndex.TheVariants.{At}
 use Rattle.policy_key_set.specs.KeySets.{HoldsKeys, is_ascii}
 use Rattle.policy.specs.Policy.{entry_rule, same_policy, same_rule, singleton_rule}
 use Rattle.policy.specs.DefaultPolicy.{default_policy}
@@ -50,7 +48,7 @@ RuleWithoutEntry =
 -- The rule for a base is the rule for its entry.
 unfoldable pub RuleByEntry : Type 0
 RuleByEntry =
-    (p : Policy) (c i : ℕ) (keycap : Bool) → variation_sequence_index c ≡ At i
+    (p : Policy) (c i : ℕ) (keycap : Bool) → variation_sequence_index c ≡ Some i
     → singleton_rule p c keycap ≡ entry_rule p i keycap
 
 -- If all ASCII keys prefer bare, the rule for each ASCII base is one of the two rules whose result is bare.
@@ -89,16 +87,16 @@ unfoldable pub NoPolicyMeans : Type 0
 NoPolicyMeans =
     (bs : List ℕ)
     → ((is_policy bs ≡ false) ↔ NoPolicy bs)
-    × ((policy_refusal bs ≡ none) ↔ (is_policy bs ≡ true))
+    × ((policy_refusal bs ≡ None) ↔ (is_policy bs ≡ true))
 
 -- "15, another version, tested after the word count of 2 and before its unused bits": the first of the three tests that fails gives the
 -- refusal.
 unfoldable pub PolicyTests : Type 0
 PolicyTests =
     (bs : List ℕ)
-    → ((length bs ≡ policy_length → ⊥) → policy_refusal bs ≡ some NotAPolicy)
-    × (length bs ≡ policy_length → (version_of bs ≡ unicode_version → ⊥) → policy_refusal bs ≡ some OtherVersion)
+    → ((length bs ≡ policy_length → ⊥) → policy_refusal bs ≡ Some NotAPolicy)
+    × (length bs ≡ policy_length → (version_of bs ≡ unicode_version → ⊥) → policy_refusal bs ≡ Some OtherVersion)
     × (length bs ≡ policy_length → version_of bs ≡ unicode_version → no_unused_bits (policy_of bs) ≡ false
-    → policy_refusal bs ≡ some NotAPolicy)
+    → policy_refusal bs ≡ Some NotAPolicy)
     × (length bs ≡ policy_length → version_of bs ≡ unicode_version → no_unused_bits (policy_of bs) ≡ true
-    → policy_refusal bs ≡ none)
+    → policy_refusal bs ≡ None)

@@ -10,11 +10,11 @@ ghost use Rattle.std.specs.Prelude.{◌≡◌, ◌+◌, ◌≤◌, length};
 ghost use Rattle.base.specs.Words.{bytes_of};
 ghost use Rattle.base.specs.Output.{PutAt, Wrote};
 ghost use Rattle.policy_key_set.specs.Sets.{word_count};
-ghost use Rattle.policy.specs.Policy.{Cleared, holds_base, rule_number, rule_of, same_policy, same_rule, singleton_rule};
+ghost use Rattle.policy.specs.Policy.{Cleared, holds_base, rule_of, same_policy, singleton_rule};
 ghost use Rattle.policy.specs.DefaultPolicy.{default_policy};
-ghost use Rattle.policy.specs.PolicyBytes.{key_words, policy_bytes, read_policy, words_from};
+ghost use Rattle.policy.specs.PolicyBytes.{key_words, policy_bytes, policy_or_fault, read_policy, words_from};
 
-use base::{WORD_BYTES, WriteAnswer};
+use base::{Refusal, WORD_BYTES};
 use default_policy::PREFER_BARE_BITS;
 use emoji::unicode_data::UNICODE_VERSION;
 use policy_key_set::PolicyKeySet;
@@ -22,14 +22,14 @@ use policy_key_set::char_set::CharSet;
 use policy_key_set::named_sets::{ALL_BITS, CHARSET_WORDS, TEXT_DEFAULT_BITS};
 
 // The keys for which bare is canonical, and the keys for which bare means text.
-#[derive(Clone, Copy)]
+#[derive(Clone, Copy, Debug)]
 pub struct Policy {
     pub prefer_bare: PolicyKeySet,
     pub bare_as_text: PolicyKeySet,
 }
 
 // The rule of a policy for a base: the selector that a bare base gets, or the selector that is removed.
-#[derive(Clone, Copy)]
+#[derive(Clone, Copy, Debug, PartialEq, Eq)]
 pub enum SingletonRule {
     BareToEmoji,
     BareToText,
@@ -37,35 +37,16 @@ pub enum SingletonRule {
     EmojiToBare,
 }
 
-// Returns the number of a rule.
-fn rule_number(rule: SingletonRule) -> u8
-    ensures { result ≡ rule_number rule }
-{
-    match rule {
-        SingletonRule::BareToEmoji => 0,
-        SingletonRule::BareToText => 1,
-        SingletonRule::TextToBare => 2,
-        SingletonRule::EmojiToBare => 3,
-    }
-}
-
-impl SingletonRule {
-    // Tests whether two rules are the same.
-    pub fn eq(self, rhs: Self) -> bool
-        ensures { result ≡ same_rule self rhs }
-    {
-        rule_number(self) == rule_number(rhs)
-    }
-}
-
 // Tests whether a key set holds a base: in its keycap set if `is_keycap` is true, or else in its ordinary set.
+#[tactic(auto, unfolding(crate::specs::Policy::holds_base))]
 fn holds(set: PolicyKeySet, base: u32, is_keycap: bool) -> bool
     ensures { result ≡ holds_base set base is_keycap }
 {
     if is_keycap {
-        return set.contains_keycap(base);
+        set.contains_keycap(base)
+    } else {
+        set.contains(base)
     }
-    set.contains(base)
 }
 
 // Returns the rule for a base. The arguments say whether `prefer_bare` and whether `bare_as_text` hold the base.
@@ -88,7 +69,7 @@ pub(crate) fn rule_of(prefers_bare: bool, bare_is_text: bool) -> SingletonRule
 fn cleared(set: PolicyKeySet) -> PolicyKeySet
     ensures { Cleared set result }
 {
-    PolicyKeySet::bitand(set, PolicyKeySet::all())
+    set & PolicyKeySet::all()
 }
 
 impl Policy {
@@ -96,10 +77,9 @@ impl Policy {
     pub fn with_prefer_bare(self, prefer_bare: PolicyKeySet) -> Self
         ensures { Cleared prefer_bare result.prefer_bare × (result.bare_as_text ≡ self.bare_as_text) }
     {
-        let bare_as_text = self.bare_as_text;
         Policy {
             prefer_bare: cleared(prefer_bare),
-            bare_as_text,
+            ..self
         }
     }
 
@@ -107,18 +87,35 @@ impl Policy {
     pub fn with_bare_as_text(self, bare_as_text: PolicyKeySet) -> Self
         ensures { (result.prefer_bare ≡ self.prefer_bare) × Cleared bare_as_text result.bare_as_text }
     {
-        let prefer_bare = self.prefer_bare;
         Policy {
-            prefer_bare,
             bare_as_text: cleared(bare_as_text),
+            ..self
         }
     }
 
-    // Returns the default policy. ASCII and the emoji defaults prefer bare. The text defaults and every keycap base
-    // are text without a selector.
-    pub fn default() -> Self
-        ensures { result ≡ default_policy }
+    // Tests whether two policies hold the same keys.
+    pub fn eq(self, rhs: Self) -> bool
+        ensures { result ≡ same_policy self rhs }
     {
+        self.prefer_bare.eq(rhs.prefer_bare) && self.bare_as_text.eq(rhs.bare_as_text)
+    }
+
+    // Returns the policy's rule for a base, as an ordinary or a keycap base.
+    pub fn singleton_rule(self, base: u32, is_keycap: bool) -> SingletonRule
+        ensures { result ≡ singleton_rule self base is_keycap }
+    {
+        let prefers_bare = holds(self.prefer_bare, base, is_keycap);
+        let bare_is_text = holds(self.bare_as_text, base, is_keycap);
+        rule_of(prefers_bare, bare_is_text)
+    }
+}
+
+// The default policy. ASCII and the emoji defaults prefer bare. The text defaults and every keycap base are text without
+// a selector.
+impl Default for Policy {
+    ghost is_default = { λ p. p ≡ default_policy };
+
+    fn default() -> Self {
         Policy {
             prefer_bare: PolicyKeySet {
                 chars: CharSet {
@@ -136,31 +133,11 @@ impl Policy {
             },
         }
     }
-
-    // Tests whether two policies hold the same keys.
-    pub fn eq(self, rhs: Self) -> bool
-        ensures { result ≡ same_policy self rhs }
-    {
-        if PolicyKeySet::eq(self.prefer_bare, rhs.prefer_bare) {
-            return PolicyKeySet::eq(self.bare_as_text, rhs.bare_as_text);
-        }
-        false
-    }
-
-    // Returns the policy's rule for a base, as an ordinary or a keycap base.
-    pub fn singleton_rule(self, base: u32, is_keycap: bool) -> SingletonRule
-        ensures { result ≡ singleton_rule self base is_keycap }
-    {
-        let prefer_bare = self.prefer_bare;
-        let bare_as_text = self.bare_as_text;
-        let prefers_bare = holds(prefer_bare, base, is_keycap);
-        let bare_is_text = holds(bare_as_text, base, is_keycap);
-        rule_of(prefers_bare, bare_is_text)
-    }
 }
 
-// The policy that bytes encode, and whether the bytes are accepted. A caller uses the policy only if they are.
-#[derive(Clone, Copy)]
+// The policy that bytes encode, and whether the bytes are accepted. A caller uses the policy only if they are. It stays
+// beside `Policy::try_from`, since the clause of `read_policy` also says what refused bytes encode.
+#[derive(Clone, Copy, Debug)]
 pub struct ReadPolicy {
     pub accepted: bool,
     pub policy: Policy,
@@ -185,11 +162,9 @@ fn read_set(bytes: &[u8], at: usize) -> CharSet
     requires { at ≤ 152 }
     ensures { result.bits ≡ words_from word_count at bytes.now }
 {
-    let mut bits = [0u64; CHARSET_WORDS];
-    let mut i = 0;
-    while i < CHARSET_WORDS {
+    let mut bits = [0; CHARSET_WORDS];
+    for i in 0..CHARSET_WORDS {
         bits[i] = base::read_word(bytes, at + i * WORD_BYTES);
-        i += 1;
     }
     CharSet { bits }
 }
@@ -212,6 +187,22 @@ pub fn read_policy(bytes: &[u8]) -> ReadPolicy
     ReadPolicy { accepted, policy }
 }
 
+// Tests bytes and reads the policy that they encode.
+impl TryFrom<&[u8]> for Policy {
+    type Error = Refusal;
+
+    ghost try_from_gives = { λ bytes result. result ≡ policy_or_fault bytes.now };
+
+    fn try_from(bytes: &[u8]) -> Result<Self, Refusal> {
+        let read = read_policy(bytes);
+        if read.accepted {
+            Ok(read.policy)
+        } else {
+            Err(policy_bytes::policy_refusal(bytes))
+        }
+    }
+}
+
 // Returns the number of bytes of a set.
 fn set_len(set: CharSet) -> usize
     ensures { (result ≡ length (bytes_of set.bits)) × (result ≤ 48) }
@@ -231,13 +222,10 @@ fn put_set(out: &mut [u8], start: usize, set: CharSet) -> usize
     requires { start + length (bytes_of set.bits) ≤ length out.old }
     ensures { PutAt out.old start (bytes_of set.bits) out.new result }
 {
-    let words = set.bits;
     let mut at = start;
-    let mut i = 0;
-    while i < CHARSET_WORDS {
-        base::write_word(out, at, words[i]);
+    for i in 0..CHARSET_WORDS {
+        base::write_word(out, at, set.bits[i]);
         at += WORD_BYTES;
-        i += 1;
     }
     at
 }
@@ -247,24 +235,20 @@ fn put_keys(out: &mut [u8], start: usize, set: PolicyKeySet) -> usize
     requires { start + length (bytes_of (key_words set)) ≤ length out.old }
     ensures { PutAt out.old start (bytes_of (key_words set)) out.new result }
 {
-    let chars = set.chars;
-    let keycap_chars = set.keycap_chars;
-    let at = put_set(out, start, chars);
-    put_set(out, at, keycap_chars)
+    let at = put_set(out, start, set.chars);
+    put_set(out, at, set.keycap_chars)
 }
 
 // Writes the version of the tables and the words of a policy at the front of a lent buffer, or refuses.
-pub fn write_policy(policy: Policy, out: &mut [u8]) -> WriteAnswer
+pub fn write_policy(policy: Policy, out: &mut [u8]) -> Result<usize, Refusal>
     ensures { Wrote (policy_bytes policy) out.old out.new result }
 {
-    let prefer_bare = policy.prefer_bare;
-    let bare_as_text = policy.bare_as_text;
-    let wanted = keys_len(prefer_bare) + keys_len(bare_as_text) + WORD_BYTES;
+    let wanted = keys_len(policy.prefer_bare) + keys_len(policy.bare_as_text) + WORD_BYTES;
     if out.len() < wanted {
-        return WriteAnswer::TooShort { wanted };
+        return Err(Refusal::OutputTooShort { wanted });
     }
     base::write_word(out, 0, UNICODE_VERSION);
-    let at = put_keys(out, PREFER_BARE, prefer_bare);
-    put_keys(out, at, bare_as_text);
-    WriteAnswer::Written { len: wanted }
+    let at = put_keys(out, PREFER_BARE, policy.prefer_bare);
+    put_keys(out, at, policy.bare_as_text);
+    Ok(wanted)
 }

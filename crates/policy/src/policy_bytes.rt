@@ -24,8 +24,7 @@ const SET_BITS: usize = 8 * SET_BYTES;
 fn last_is_used(last: u64) -> bool
     ensures { result ≡ all_below 64 (λ (k : ℕ). ltb (320 + k) 354 || not (one k last)) }
 {
-    let used = ALL_BITS;
-    last <= used[CHARSET_WORDS - 1]
+    last <= ALL_BITS[CHARSET_WORDS - 1]
 }
 
 // Tests whether all unused bits are 0 in the set whose bytes start at an offset.

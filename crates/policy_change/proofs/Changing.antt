@@ -1,8 +1,8 @@
 -- The claims on lists of calls, from what the bytes stand for.
+use Rattle.std.specs.Prelude.{Ok, Err, Option, Some, None}
 use mathlib.Core.Path.{◌≡◌, refl, ap, sym, ◌∙◌, subst}
 use mathlib.Core.Bool.{Bool, true, false, cond, true≢false}
 use mathlib.Core.List.{List, [], ◌++◌}
-use mathlib.Core.Option.{Option, none, some}
 use Prim.Native.Nat.{ℕ}
 use native.Mathlib.Omega.{arith}
 use lib.ListN.{drop, length, replicate}
@@ -22,7 +22,6 @@ use Rattle.feed.specs.Calls.{Answer, Feed, refused, wrote}
 use Rattle.feed.specs.Calls as Calls
 use Rattle.feed.specs.Bytes.{Called, leaves, refuses}
 use Rattle.feed.specs.Theorems.{NextEnd, NextPiece}
-use Rattle.feed.specs.declared.FeedAnswer.TheVariants.{Refused, Written}
 use Rattle.feed.proofs.Answered.{answered}
 use Rattle.feed.proofs.Calls.{FeedClaim, claim_of}
 use Rattle.feed.proofs.InBytes.{end_outcome, piece_outcome}
@@ -50,10 +49,10 @@ use Rattle.policy_change.proofs.Steps.{next_stands}
 -- ---- the next call
 
 no_refusal : {n : ℕ} {r : Refusal} {fe out : List ℕ} {bs o : List ℕ}
-    → ◌≡◌ {A = Called} (record { answer = Written n; feed = fe; out = out }) (refuses (Refused r) bs o) → ⊥
+    → ◌≡◌ {A = Called} (record { answer = Ok n; feed = fe; out = out }) (refuses (Err r) bs o) → ⊥
 no_refusal {n} {r} e = go (ap (λ (c : Called). c.answer) e)
   where
-    go : Written n ≡ Refused r → ⊥
+    go : Ok n ≡ Err r → ⊥
     go e = let z : ◌≡◌ {A = ℕ} 0 1 = cc in omega arith
 
 module _ {B T : List ℕ} {E : Bool} (g h : Feed) where
@@ -81,10 +80,10 @@ module _ {B T : List ℕ} {E : Bool} (g h : Feed) where
         record { bytes = d.bytes; answer = d.answer; out_bytes = d.out_bytes; room = d.room };
   }
 
-some_is : {x y : Refusal} → some x ≡ some y → x ≡ y
+some_is : {x y : Refusal} → Some x ≡ Some y → x ≡ y
 some_is e = cc
 
-none-some : {x : Refusal} → ◌≡◌ {A = Option Refusal} none (some x) → ⊥
+none-some : {x : Refusal} → ◌≡◌ {A = Option Refusal} None (Some x) → ⊥
 none-some e = let z : ◌≡◌ {A = ℕ} 0 1 = cc in omega arith
 
 module _ {B : List ℕ} {f : Feed} (s : Stands B f) where
@@ -95,7 +94,7 @@ module _ {B : List ℕ} {f : Feed} (s : Stands B f) where
       (go f.ended refl (is_policy policy) refl after_is)
     where
       A : Bool → Bool → Answer
-      A t o = cond t (refused FeedEnded) (or_else (cond o none (some (policy_fault policy))) refused (wrote []))
+      A t o = cond t (refused FeedEnded) (or_else (cond o None (Some (policy_fault policy))) refused (wrote []))
 
       L : Answer → Called
       L a = leaves_after B (change policy) (after_call f (change policy) a) a
@@ -114,14 +113,14 @@ module _ {B : List ℕ} {f : Feed} (s : Stands B f) where
       }
       go false e true h a = record {
         ended = λ d. absurd (true≢false (sym d));
-        no_policy = λ d r q. absurd (none-some (ap (λ (x : Bool). cond x none (some (policy_fault policy))) (sym h) ∙ q));
+        no_policy = λ d r q. absurd (none-some (ap (λ (x : Bool). cond x None (Some (policy_fault policy))) (sym h) ∙ q));
         done = λ d q. (refl, ap (λ (x : Feed). x.policy) a);
       }
       go false e false h a = record {
         ended = λ d. absurd (true≢false (sym d));
         no_policy =
-            λ d r q. ap (λ (x : Refusal). refuses (Refused x) B []) (some_is
-            (ap (λ (x : Bool). cond x none (some (policy_fault policy))) (sym h) ∙ q));
+            λ d r q. ap (λ (x : Refusal). refuses (Err x) B []) (some_is
+            (ap (λ (x : Bool). cond x None (Some (policy_fault policy))) (sym h) ∙ q));
         done = λ d q. absurd (true≢false (sym q ∙ h));
       }
 
@@ -206,9 +205,9 @@ unfolding RefusalsWriteNothing called_on
 refused-writes-nothing bs c r e = go (is_changing bs) (answer_to (changing_feed bs) c) e
   where
     R : Bool → Answer → Called
-    R t a = cond t (leaves_after bs c (after_call (changing_feed bs) c a) a) (refuses (Refused FeedEnded) bs (out_of c))
+    R t a = cond t (leaves_after bs c (after_call (changing_feed bs) c a) a) (refuses (Err FeedEnded) bs (out_of c))
 
-    go : (t : Bool) (a : Answer) → (R t a).answer ≡ Refused r → ((R t a).feed ≡ bs) × ((R t a).out ≡ out_of c)
+    go : (t : Bool) (a : Answer) → (R t a).answer ≡ Err r → ((R t a).feed ≡ bs) × ((R t a).out ≡ out_of c)
     go false a e = (refl, refl)
     go true (refused r) e = (refl, refl)
     go true (wrote o) e = let z : ◌≡◌ {A = ℕ} 0 1 = cc in absurd (omega arith)

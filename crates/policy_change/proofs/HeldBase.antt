@@ -1,11 +1,11 @@
 -- The held base after characters that have any policies. A selector leaves the policy of the held base, and any other character takes its
 -- own; so the laws of crate feed on one policy serve each step.
+use Rattle.emoji.specs.declared.presentation.Presentation.{Presentation}
+use Rattle.std.specs.Prelude.{Some, None, Option}
 use mathlib.Core.Path.{◌≡◌, refl, sym, subst}
 use mathlib.Core.List.{List, [], ◌∷◌, ◌++◌, append_assoc, append-nil}
 use Prim.Native.Nat.{ℕ}
 use Rattle.emoji.specs.Presentation.{from_selector}
-use Rattle.emoji.specs.declared.presentation.FromSelector.{FromSelector}
-use Rattle.emoji.specs.declared.presentation.FromSelector.TheVariants.{NoSelector, Selector}
 use Rattle.policy.specs.declared.Policy.{Policy}
 use Rattle.feed.specs.Feed.{Fed, Pending, chars_of, fed_as, nothing, take_char, take_chars}
 use Rattle.feed.specs.Theorems.{HeldLast, only_selectors_lem}
@@ -17,17 +17,17 @@ one_more : {cs : List ℕ} {h : Pending} → HoldsLast cs h → (q : Policy) (d 
 unfolding take_char take_chars
 one_more {cs} {h} l q d = go (from_selector d) refl
   where
-    go : (y : FromSelector) → from_selector d ≡ y → HoldsLast (cs ++ (d ∷ [])) (take_char q h d y).0
-    go (Selector r) e = record {
+    go : (y : Option Presentation) → from_selector d ≡ y → HoldsLast (cs ++ (d ∷ [])) (take_char q h d y).0
+    go (Some r) e = record {
       judge = l.judge;
       last =
-          subst (λ (z : FromSelector). HeldLast l.judge (cs ++ (d ∷ [])) (take_char l.judge h d z).0) e
+          subst (λ (z : Option Presentation). HeldLast l.judge (cs ++ (d ∷ [])) (take_char l.judge h d z).0) e
           (chars-last l.judge l.last (d ∷ []));
     }
-    go NoSelector e = record {
+    go None e = record {
       judge = q;
       last =
-          subst (λ (z : FromSelector). HeldLast q (cs ++ (d ∷ [])) (take_char q (take_chars nothing (fed_as q cs)).0 d z).0) e
+          subst (λ (z : Option Presentation). HeldLast q (cs ++ (d ∷ [])) (take_char q (take_chars nothing (fed_as q cs)).0 d z).0) e
           (chars-last q (all_last q cs) (d ∷ []));
     }
 

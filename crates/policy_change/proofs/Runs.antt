@@ -1,8 +1,8 @@
 -- Lists of calls: the bytes stand for a feed, whose characters have the policies in force when their last bytes were fed.
+use Rattle.std.specs.Prelude.{Err, Some, None}
 use mathlib.Core.Path.{◌≡◌, refl, ap, ap₂, sym, ◌∙◌, subst}
 use mathlib.Core.Bool.{Bool, true, false, cond, ◌||◌}
 use mathlib.Core.List.{List, [], ◌∷◌, ◌++◌, append_assoc, append-nil}
-use mathlib.Core.Option.{none, some}
 use Prim.Native.Nat.{ℕ, ◌+◌, ◌-◌}
 use native.Mathlib.Omega.{arith}
 use lib.ListN.{drop, length, length-append, length-replicate, replicate, take}
@@ -20,7 +20,6 @@ use Rattle.feed.specs.Feed.{Fed, fed_as, piece_room, settle, take_chars}
 use Rattle.feed.specs.Calls.{Answer, Feed, fed_by, new_feed, refused, wrote}
 use Rattle.feed.specs.Calls as Calls
 use Rattle.feed.specs.Bytes.{Called, new_bytes, output_of, refuses}
-use Rattle.feed.specs.declared.FeedAnswer.TheVariants.{Refused}
 use Rattle.feed.proofs.Answered.{
   Answered,
   answered,
@@ -114,13 +113,13 @@ module _ {b : Policy} {B T : List ℕ} {P : List Policy} {W : List ℕ} {E : Boo
     ended_is = d;
   }
 
-  refused_piece : (x out : List ℕ) (r : Refusal) → AfterCall b T P W E p (piece x out) (refuses (Refused r) B out)
+  refused_piece : (x out : List ℕ) (r : Refusal) → AfterCall b T P W E p (piece x out) (refuses (Err r) B out)
   refused_piece x out r = idle [] a.stands (same a.inv) a.in_force (a.ended_is ∙ sym (or_false E))
 
-  refused_end : (out : List ℕ) (r : Refusal) → AfterCall b T P W E p (end out) (refuses (Refused r) B out)
+  refused_end : (out : List ℕ) (r : Refusal) → AfterCall b T P W E p (end out) (refuses (Err r) B out)
   refused_end out r = idle [] a.stands (same a.inv) a.in_force (a.ended_is ∙ sym (or_false E))
 
-  refused_change : (policy : List ℕ) (r : Refusal) → AfterCall b T P W E p (change policy) (refuses (Refused r) B [])
+  refused_change : (policy : List ℕ) (r : Refusal) → AfterCall b T P W E p (change policy) (refuses (Err r) B [])
   refused_change policy r = idle [] a.stands (same a.inv) a.in_force (a.ended_is ∙ sym (or_false E))
 
   abbrev L : Call → Answer → Called
@@ -172,7 +171,7 @@ module _ {b : Policy} {B T : List ℕ} {P : List Policy} {W : List ℕ} {E : Boo
   after_change policy s = go f.ended (is_policy policy) s
     where
       A : Bool → Bool → Answer
-      A t o = cond t (refused FeedEnded) (or_else (cond o none (some (policy_fault policy))) refused (wrote []))
+      A t o = cond t (refused FeedEnded) (or_else (cond o None (Some (policy_fault policy))) refused (wrote []))
 
       go : (t o : Bool) → Stands (L (change policy) (A t o)).feed (after_call f (change policy) (A t o))
           → AfterCall b T P W E p (change policy) (L (change policy) (A t o))

@@ -1,4 +1,6 @@
 -- Selectors are taken alike under any policy. After any other character the policy in force judges what is held.
+use Rattle.emoji.specs.declared.presentation.Presentation.{Presentation}
+use Rattle.std.specs.Prelude.{Option}
 use mathlib.Core.Path.{◌≡◌, refl, ap, sym, ◌∙◌, subst}
 use mathlib.Core.Bool.{Bool, true, false, ◌&&◌, true≢false}
 use mathlib.Core.List.{List, [], ◌∷◌}
@@ -7,7 +9,6 @@ use Rattle.base.proofs.Tests.{both_true}
 use Rattle.utf8.specs.Rfc3629.{all_scalar, is_scalar}
 use Rattle.emoji.specs.Presentation.{from_selector, is_selector}
 use Rattle.emoji.specs.Unicode.{has_variation_sequence}
-use Rattle.emoji.specs.declared.presentation.FromSelector.{FromSelector}
 use Rattle.policy.specs.declared.Policy.{Policy}
 use Rattle.scanner.proofs.SelectorChars.{CharIs, a_selector, char_is, from-other, from_selector_lem, no_selector}
 use Rattle.feed.specs.Feed.{Effect, Pending, fed_as, held_after_of, join_effects, take_char, take_chars}
@@ -25,7 +26,7 @@ module _ (p q : Policy) where
       go : CharIs c → take_char p s c (from_selector c) ≡ take_char q s c (from_selector c)
       go (a_selector r d) =
           let f = ap from_selector d ∙ from_selector_lem r in
-          ap (λ (y : FromSelector). take_char p s c y) f ∙ sym (ap (λ (y : FromSelector). take_char q s c y) f)
+          ap (λ (y : Option Presentation). take_char p s c y) f ∙ sym (ap (λ (y : Option Presentation). take_char q s c y) f)
       go (no_selector i) = absurd (true≢false (sym e ∙ i))
 
   pub selectors_same : (s : Pending) (cs : List ℕ) → only_selectors cs ≡ true → take_chars s (fed_as p cs) ≡ take_chars s (fed_as q cs)
@@ -42,7 +43,8 @@ module _ (p : Policy) where
   fresh : (s : Pending) (c : ℕ) → is_selector c ≡ false → is_scalar c ≡ true → HeldUnder p (take_char p s c (from_selector c)).0
   unfolding take_char
   fresh s c i j =
-      subst (λ (y : FromSelector). HeldUnder p (take_char p s c y).0) (sym (from-other c i)) (held-under (has_variation_sequence c) refl)
+      subst (λ (y : Option Presentation). HeldUnder p (take_char p s c y).0) (sym (from-other c i))
+      (held-under (has_variation_sequence c) refl)
     where
       held-under : (b : Bool) → has_variation_sequence c ≡ b → HeldUnder p (held_after_of p c b)
       held-under true e = a_base j e

@@ -1,4 +1,5 @@
 -- Which bytes stand for a feed whose policy may change, and what the test of the calls and the reading of these bytes give.
+use Rattle.std.specs.Prelude.{Err}
 use mathlib.Core.Path.{◌≡◌, refl, ap, ap₂, sym, ◌∙◌}
 use mathlib.Core.Bool.{Bool, true, false, cond, not, ◌&&◌, ◌||◌}
 use mathlib.Core.List.{List, ◌++◌}
@@ -18,7 +19,6 @@ use Rattle.policy.specs.declared.Policy.{Policy}
 use Rattle.analysis.specs.Counts.{empty}
 use Rattle.feed.specs.Calls.{Feed, totals_now}
 use Rattle.feed.specs.Bytes.{bytes_for, feed_of, is_feed, refuses, state_for, state_of, state_words}
-use Rattle.feed.specs.declared.FeedAnswer.TheVariants.{Refused}
 use Rattle.feed.proofs.Back.{reads_back}
 use Rattle.feed.proofs.Kept.{Kept, kept-holds, kept-passes, policy_length_lem, state_is}
 use Rattle.feed.proofs.Writing.{words_many}
@@ -137,7 +137,7 @@ module _ {B : List ℕ} {f : Feed} (s : Stands B f) where
   call_is c =
       ap (λ (t : Bool). cond t (leaves_after B c (after_call (changing_feed B) c (answer_to (changing_feed B) c))
       (answer_to (changing_feed B) c))
-      (refuses (Refused FeedEnded) B (out_of c))) passes
+      (refuses (Err FeedEnded) B (out_of c))) passes
       ∙ ap (λ (g : Feed). leaves_after B c (after_call g c (answer_to g c)) (answer_to g c)) feed_is
 
   pub totals_are : changing_totals B ≡ totals_now f

@@ -1,8 +1,8 @@
 -- One call: the bytes after it stand for the feed after it.
+use Rattle.std.specs.Prelude.{Some, None}
 use mathlib.Core.Path.{◌≡◌, refl, ap, ap₂, sym, ◌∙◌, subst}
 use mathlib.Core.Bool.{Bool, true, false, cond, not, ◌&&◌, true≢false}
 use mathlib.Core.List.{List, [], ◌++◌, append_assoc}
-use mathlib.Core.Option.{none, some}
 use Prim.Native.Nat.{ℕ, ◌+◌, ◌≤◌}
 use native.Mathlib.Omega.{arith}
 use lib.Dec.{eqb}
@@ -307,7 +307,7 @@ module _ {B : List ℕ} {f : Feed} (s : Stands B f) where
   by_change policy = go f.ended (is_policy policy) refl
     where
       A : Bool → Bool → Answer
-      A t o = cond t (refused FeedEnded) (or_else (cond o none (some (policy_fault policy))) refused (wrote []))
+      A t o = cond t (refused FeedEnded) (or_else (cond o None (Some (policy_fault policy))) refused (wrote []))
 
       go : (t o : Bool) → is_policy policy ≡ o → Stands (leaves_after B (change policy) (after_call f (change policy) (A t o)) (A t o)).feed
           (after_call f (change policy) (A t o))

@@ -1,6 +1,29 @@
 -- A feed whose policy may change, in lent bytes: which bytes are one, and what each call answers and leaves, for any bytes. For a feed
 -- begun new and handed on from call to call, specs/Theorems.antt (EveryChangingFeed) says what this amounts to.
-use Rattle.std.specs.Prelude.{Bool, true, false, cond, not, ◌&&◌, ◌||◌, List, [], ◌∷◌, ◌++◌, ℕ, eqb, leb, drop, length, replicate, take}
+use Rattle.base.specs.declared.Refusal.{Refusal}
+use Rattle.std.specs.Prelude.{
+  Bool,
+  true,
+  false,
+  cond,
+  not,
+  ◌&&◌,
+  ◌||◌,
+  List,
+  [],
+  ◌∷◌,
+  ◌++◌,
+  ℕ,
+  eqb,
+  leb,
+  drop,
+  length,
+  replicate,
+  take,
+  Ok,
+  Err,
+  Result,
+}
 use Rattle.base.specs.Refusals.{After, or_else, unwritten, written}
 use Rattle.base.specs.Words.{number, word_bytes}
 use Rattle.base.specs.declared.Refusal.TheVariants.{FeedEnded, OutputTooShort}
@@ -23,8 +46,6 @@ use Rattle.feed.specs.Bytes.{
   state_bytes,
   state_of,
 }
-use Rattle.feed.specs.declared.FeedAnswer.{FeedAnswer}
-use Rattle.feed.specs.declared.FeedAnswer.TheVariants.{Refused, Written}
 use Rattle.policy_change.specs.Calls.{Call, after_call, answer_to, change, end, piece, under}
 
 -- ---- the parts
@@ -90,14 +111,14 @@ out_of (end out) = out
 out_of (change policy) = []
 
 abbrev pub leaves_after : List ℕ → Call → Feed → Answer → Called
-leaves_after bs c f (wrote o) = record { answer = Written (length o); feed = bytes_after bs c f; out = o ++ drop (length o) (out_of c) }
-leaves_after bs c f (refused r) = refuses (Refused r) bs (out_of c)
+leaves_after bs c f (wrote o) = record { answer = Ok (length o); feed = bytes_after bs c f; out = o ++ drop (length o) (out_of c) }
+leaves_after bs c f (refused r) = refuses (Err r) bs (out_of c)
 
 -- A call on bytes. If the bytes are no such feed, the answer is refusal 9.
 unfoldable pub called_on : List ℕ → Call → Called
 called_on bs c =
     let a = answer_to (changing_feed bs) c in
-    cond (is_changing bs) (leaves_after bs c (after_call (changing_feed bs) c a) a) (refuses (Refused FeedEnded) bs (out_of c))
+    cond (is_changing bs) (leaves_after bs c (after_call (changing_feed bs) c a) a) (refuses (Err FeedEnded) bs (out_of c))
 
 -- The totals. Bytes that are no such feed have totals of 0.
 unfoldable pub changing_totals : List ℕ → NonCanonicality
@@ -107,11 +128,11 @@ changing_totals bs = cond (is_changing bs) (totals_now (changing_feed bs)) empty
 unfoldable pub new_changing : List ℕ → List ℕ
 new_changing policy = new_bytes policy ++ (word_bytes 0 ++ policy)
 
-unfoldable pub begun_changing : List ℕ → List ℕ → After FeedAnswer ℕ
+unfoldable pub begun_changing : List ℕ → List ℕ → After (Result ℕ Refusal) ℕ
 begun_changing policy feed =
-    or_else (policy_refusal policy) (λ r. unwritten (Refused r) feed)
-    (cond (leb changing_bytes (length feed)) (written (Written changing_bytes) (new_changing policy) feed)
-    (unwritten (Refused (OutputTooShort changing_bytes)) feed))
+    or_else (policy_refusal policy) (λ r. unwritten (Err r) feed)
+    (cond (leb changing_bytes (length feed)) (written (Ok changing_bytes) (new_changing policy) feed)
+    (unwritten (Err (OutputTooShort changing_bytes)) feed))
 
 -- ---- lists of calls on a feed's bytes, which are handed on from call to call, refused calls included
 
@@ -124,9 +145,9 @@ joined_outputs bs [] = []
 joined_outputs bs (c ∷ cs) = output_of (called_on bs c) (called_on bs c).answer ++ joined_outputs (called_on bs c).feed cs
 
 -- The thread: the pieces that were taken.
-abbrev pub piece_taken : Call → FeedAnswer → List ℕ
-piece_taken (piece b out) (Written n) = b
-piece_taken (piece b out) (Refused r) = []
+abbrev pub piece_taken : Call → Result ℕ Refusal → List ℕ
+piece_taken (piece b out) (Ok n) = b
+piece_taken (piece b out) (Err r) = []
 piece_taken (end out) a = []
 piece_taken (change policy) a = []
 
@@ -135,11 +156,11 @@ thread_of bs [] = []
 thread_of bs (c ∷ cs) = piece_taken c (called_on bs c).answer ++ thread_of (called_on bs c).feed cs
 
 -- The policy in force after a call, and for each byte of the thread the policy in force when it was fed.
-abbrev pub policy_after : Call → FeedAnswer → Policy → Policy
+abbrev pub policy_after : Call → Result ℕ Refusal → Policy → Policy
 policy_after (piece b out) a p = p
 policy_after (end out) a p = p
-policy_after (change policy) (Written n) p = policy_of policy
-policy_after (change policy) (Refused r) p = p
+policy_after (change policy) (Ok n) p = policy_of policy
+policy_after (change policy) (Err r) p = p
 
 unfoldable pub policies_of : List ℕ → Policy → List Call → List Policy
 policies_of bs p [] = []
@@ -148,10 +169,10 @@ policies_of bs p (c ∷ cs) =
     ++ policies_of (called_on bs c).feed (policy_after c (called_on bs c).answer p) cs
 
 -- Whether one of the calls ended the feed.
-abbrev pub end_taken : Call → FeedAnswer → Bool
+abbrev pub end_taken : Call → Result ℕ Refusal → Bool
 end_taken (piece b out) a = false
-end_taken (end out) (Written n) = true
-end_taken (end out) (Refused r) = false
+end_taken (end out) (Ok n) = true
+end_taken (end out) (Err r) = false
 end_taken (change policy) a = false
 
 unfoldable pub has_ended : List ℕ → List Call → Bool

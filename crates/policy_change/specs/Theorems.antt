@@ -1,6 +1,5 @@
 -- What is claimed of a feed whose policy may change. Each statement is proved in proofs/Claims.antt.
-use Rattle.std.specs.Prelude.{◌≡◌, Bool, true, false, List, [], ◌∷◌, ◌++◌, ℕ, ◌≤◌, drop, length, replicate}
-use Rattle.std.proofs.Math.Option.{some}
+use Rattle.std.specs.Prelude.{◌≡◌, Bool, true, false, List, [], ◌∷◌, ◌++◌, ℕ, ◌≤◌, drop, length, replicate, Ok, Err, Some}
 use Rattle.base.specs.Words.{all_bytes}
 use Rattle.base.specs.declared.Refusal.{Refusal}
 use Rattle.base.specs.declared.Refusal.TheVariants.{FeedEnded}
@@ -13,7 +12,6 @@ use Rattle.formatter.specs.Format.{formatted}
 use Rattle.feed.specs.Bytes.{Called, refuses}
 use Rattle.feed.specs.Feed.{Pending, format_fed, settle, total_fed}
 use Rattle.feed.specs.Theorems.{GoesOn, HeldLast, NextEnd, NextPiece}
-use Rattle.feed.specs.declared.FeedAnswer.TheVariants.{Refused, Written}
 use Rattle.policy_change.specs.Calls.{Call, change, end, fed_with, piece}
 use Rattle.policy_change.specs.Bytes.{
   called_on,
@@ -39,10 +37,10 @@ pub data OfBytes : List Call → Type 0 where
 -- The outcome r of a change to a policy. The tests are 9 and then the policy's own: 2, 15, 2. A refused change leaves the feed as it was.
 pub record NextChange (B : List ℕ) (E : Bool) (policy : List ℕ) (r : Called) : Type 0 where
   -- "A change for a feed already ended gives 9."
-  pub ended : E ≡ true → r ≡ refuses (Refused FeedEnded) B []
-  pub no_policy : E ≡ false → (f : Refusal) → policy_refusal policy ≡ some f → r ≡ refuses (Refused f) B []
+  pub ended : E ≡ true → r ≡ refuses (Err FeedEnded) B []
+  pub no_policy : E ≡ false → (f : Refusal) → policy_refusal policy ≡ Some f → r ≡ refuses (Err f) B []
   -- It is done: its value is 0, and the policy is the one in force.
-  pub done : E ≡ false → is_policy policy ≡ true → (r.answer ≡ Written 0) × ((changing_feed r.feed).policy ≡ policy_of policy)
+  pub done : E ≡ false → is_policy policy ≡ true → (r.answer ≡ Ok 0) × ((changing_feed r.feed).policy ≡ policy_of policy)
 
 -- "all but an unfinished character and a last base that has a variation entry, with its selectors": what is held after these characters.
 -- The policy is the one that judges the held base; `open_text` below says which one that is.
@@ -88,5 +86,5 @@ EveryChangingFeed =
 -- Any bytes as a feed: "for any other the answer is the program's choice, within the lent buffers, and a refusal still writes nothing."
 unfoldable pub RefusalsWriteNothing : Type 0
 RefusalsWriteNothing =
-    (bs : List ℕ) (c : Call) (r : Refusal) → (called_on bs c).answer ≡ Refused r
+    (bs : List ℕ) (c : Call) (r : Refusal) → (called_on bs c).answer ≡ Err r
     → ((called_on bs c).feed ≡ bs) × ((called_on bs c).out ≡ out_of c)

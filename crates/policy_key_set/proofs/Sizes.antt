@@ -1,14 +1,16 @@
 -- The number of ones of a word is the number of its bits that are 1, and the sum over the words is the number of members.
+use Rattle.std.proofs.lemmas.List.Sums.{sum_by-cons}
 use mathlib.Core.Path.{◌≡◌, refl, sym, ap, ap₂, ◌∙◌}
 use mathlib.Core.Bool.{Bool, ◌&&◌}
-use mathlib.Core.List.{List}
+use Rattle.std.specs.Prelude.{count_ones, sum_by}
+use mathlib.Core.List.{List, [], ◌∷◌}
 use Prim.Native.Nat.{ℕ, zero, suc, ◌+◌, ◌*◌, ◌/◌, ◌%◌, ◌^◌, ◌<◌, ◌≤◌}
 use native.Mathlib.Nat.{add-suc, add-zero, pow-suc}
 use native.Mathlib.Numerals.{add-one}
 use native.Mathlib.Omega.{arith}
 use lib.Count.{ones, ones_step}
 use lib.Dec.{eqb}
-use lib.ListN.{get_or}
+use lib.ListN.{get_or, length}
 use borrow.Author.Tests.{le-ltb}
 use Rattle.base.specs.Sums.{one_if, sum_below}
 use Rattle.base.specs.Bits.{one}
@@ -84,3 +86,21 @@ pub count_held : (n m : ℕ) (p : ℕ → Bool) (ws : List ℕ) → n ≤ m → 
 count_held n m p ws q h =
     count_to n m (λ (i : ℕ). member i ws) q (λ k l. h k ∙ ap (λ (b : Bool). b && p k) (le-ltb k n l))
     ∙ count_same n (λ (i : ℕ). member i ws) p (held n p ws h)
+
+-- The sum over a list of words is the sum over their places.
+sum_shift : (f : ℕ → ℕ) (m : ℕ) → sum_below (suc m) f ≡ f 0 + sum_below m (λ (k : ℕ). f (suc k))
+unfolding sum_below
+sum_shift f zero = omega arith
+sum_shift f (suc m) = omega (arith, sum_shift f m)
+
+sum-list : (ws : List ℕ) → sum_by count_ones ws ≡ sum_below (length ws) (λ (k : ℕ). ones (get_or ws k 0))
+unfolding sum_below
+sum-list [] = refl
+sum-list (w ∷ ws) =
+    omega (arith, sum_by-cons ones w ws, sum-list ws, sum_shift (λ (k : ℕ). ones (get_or (w ∷ ws) k 0)) (length ws))
+
+-- The number of ones of words is the number of their members.
+pub ones-members : (ws : List ℕ) (m : ℕ) → length ws ≡ m → ((k : ℕ) → get_or ws k 0 < 2 ^ 64)
+    → sum_by count_ones ws ≡ count_below (m * 64) (λ (i : ℕ). member i ws)
+ones-members ws m e h =
+    sum-list ws ∙ ap (λ (n : ℕ). sum_below n (λ (k : ℕ). ones (get_or ws k 0))) e ∙ sum-count ws h m

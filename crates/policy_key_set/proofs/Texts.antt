@@ -2,37 +2,33 @@
 use mathlib.Core.Path.{◌≡◌, refl, sym, ap, ◌∙◌}
 use mathlib.Core.Bool.{Bool, true, false, cond}
 use mathlib.Core.List.{List, [], ◌∷◌, ◌++◌, append_assoc, append-nil}
-use Prim.Native.Nat.{ℕ, zero, suc, ◌+◌, ◌-◌, ◌*◌, ◌/◌, ◌%◌, ◌^◌, ◌<◌, ◌≤◌}
-use native.Mathlib.Nat.{add-zero, not-suc-le-zero}
+use Prim.Native.Nat.{ℕ, zero, suc, ◌+◌, ◌-◌, ◌<◌, ◌≤◌}
+use native.Mathlib.Nat.{add-suc, add-zero, not-suc-le-zero}
 use native.Mathlib.Numerals.{add-one}
 use native.Mathlib.Omega.{arith}
-use lib.ListN.{drop, drop_of_length-le, get_or, length, length-append}
-use lib.Seq.{drop-cons}
+use lib.ListN.{drop, drop_of_length-le, get_or, length, length-append, take}
+use lib.Seq.{drop-cons, take_all}
 use Rattle.base.specs.Texts.{parted}
 use Rattle.policy_key_set.specs.Sets.{member}
-use Rattle.policy_key_set.specs.Display.{
-  hex_digit,
-  hex_digits,
-  hex_width,
-  key_text,
-  key_texts,
-  opening,
-  with_comma,
-  written_from,
-}
+use Rattle.policy_key_set.specs.Display.{hex_digits, hex_width, key_text, key_texts, opening, with_comma, written_from}
 
 pub hex_length : (k n : ℕ) → length (hex_digits k n) ≡ k
 unfolding hex_digits
 hex_length zero n = refl
 hex_length (suc k) n = ap suc (hex_length k n)
 
--- The first of k digits, and the others.
-pub hex_digits_cons : (k n : ℕ) → 0 < k → hex_digits k n ≡ hex_digit (n / 2 ^ (4 * (k - 1)) % 16) ∷ hex_digits (k - 1) n
+-- The last k of more digits.
+pub last-digits : (j k n : ℕ) → drop j (hex_digits (k + j) n) ≡ hex_digits k n
 unfolding hex_digits
-hex_digits_cons zero n h = absurd (not-suc-le-zero h)
-hex_digits_cons (suc k) n h =
-    let e : k ≡ suc k - 1 = omega arith in
-    ap (λ (m : ℕ). hex_digit (n / 2 ^ (4 * m) % 16) ∷ hex_digits m n) e
+last-digits zero k n = ap (λ (m : ℕ). hex_digits m n) (add-zero k)
+last-digits (suc j) k n = ap (λ (m : ℕ). drop (suc j) (hex_digits m n)) (add-suc k j) ∙ last-digits j k n
+
+-- The last w of six digits, as a slice has them.
+pub digits-part : {w : ℕ} {ds : List ℕ} (n : ℕ) → w ≤ 6 → ds ≡ hex_digits 6 n → take (6 - (6 - w)) (drop (6 - w) ds) ≡ hex_digits w n
+digits-part {w} {ds} n h e =
+    let f : w + (6 - w) ≡ 6 = omega arith in
+    ap (λ (xs : List ℕ). take (6 - (6 - w)) (drop (6 - w) xs)) (e ∙ ap (λ (k : ℕ). hex_digits k n) (sym f))
+    ∙ ap (take (6 - (6 - w))) (last-digits (6 - w) w n) ∙ take_all (6 - (6 - w)) (hex_digits w n) (omega (arith, hex_length w n))
 
 pub text_length : (keycap : Bool) (c : ℕ) → length (key_text keycap c) ≡ length (opening keycap) + (hex_width c + 1)
 unfolding key_text

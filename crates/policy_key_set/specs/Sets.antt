@@ -1,21 +1,35 @@
 -- Sets of variation entries as words of 64 bits: document 01, "Key set and policy". `Holds` says which entries a set holds, and the
 -- contract of every operation cites it.
-use Rattle.std.specs.Prelude.{◌≡◌, Bool, true, false, ◌&&◌, ◌||◌, not, List, [], ◌∷◌, ℕ, zero, suc, ◌+◌, ◌*◌, ◌/◌, ◌%◌, ltb, get_or, length}
+use Rattle.std.specs.Prelude.{
+  ◌≡◌,
+  Bool,
+  true,
+  false,
+  ◌&&◌,
+  not,
+  List,
+  [],
+  ◌∷◌,
+  ℕ,
+  zero,
+  suc,
+  ◌+◌,
+  ◌*◌,
+  ◌/◌,
+  ◌%◌,
+  ltb,
+  get_or,
+  length,
+  Some,
+  None,
+  Option,
+}
 use Rattle.std.specs.Bool.{beq}
 use Rattle.base.specs.Sums.{one_if}
 use Rattle.base.specs.Bits.{one}
 use Rattle.emoji.specs.Unicode.{variation_sequence_index}
 use Rattle.emoji.specs.UnicodeData.{variation_entries}
-use Rattle.emoji.specs.declared.VariationSequenceIndex.{VariationSequenceIndex}
-use Rattle.emoji.specs.declared.VariationSequenceIndex.TheVariants as Index
 use Rattle.policy_key_set.specs.declared.char_set.CharSet.{CharSet}
-use Rattle.policy_key_set.specs.declared.char_set.SetOperation.{SetOperation}
-use Rattle.policy_key_set.specs.declared.char_set.SetOperation.TheVariants.{
-  Difference,
-  Intersection,
-  SymmetricDifference,
-  Union,
-}
 
 -- Entry i is in the set: "entry i at bit i mod 64 of word i/64". After the last word, no entry is in the set.
 unfoldable pub member : ℕ → List ℕ → Bool
@@ -49,13 +63,6 @@ but_not x y = x && not y
 abbrev pub differ : Bool → Bool → Bool
 differ x y = not (beq x y)
 
--- An operation keeps an entry. The two arguments say whether the entry is in the first and in the second set.
-abbrev pub keeps : SetOperation → Bool → Bool → Bool
-keeps Union = ◌||◌
-keeps Intersection = ◌&&◌
-keeps SymmetricDifference = differ
-keeps Difference = but_not
-
 -- The result of an operation, entry by entry: "Union, intersection, difference and complement take whole sets and give a new one".
 abbrev pub MadeBy : (Bool → Bool → Bool) → CharSet → CharSet → CharSet → Type 0
 MadeBy f a b r = Holds (λ (i : ℕ). f (member i a.bits) (member i b.bits)) r.bits
@@ -79,9 +86,9 @@ unfoldable pub same_entries : List ℕ → List ℕ → Bool
 same_entries ws vs = all_below entry_count (λ (i : ℕ). beq (member i ws) (member i vs))
 
 -- The set holds the entry at an index.
-unfoldable pub member_at : VariationSequenceIndex → List ℕ → Bool
-member_at (Index.At i) ws = member i ws
-member_at Index.NoEntry ws = false
+unfoldable pub member_at : Option ℕ → List ℕ → Bool
+member_at (Some i) ws = member i ws
+member_at None ws = false
 
 -- The set holds a character: `CharSet::contains` of policy_key_set.rs.
 unfoldable pub contains : ℕ → List ℕ → Bool

@@ -1,7 +1,7 @@
 // Sets of variation entries: `CharSet` of policy_key_set.rs of the crate evfmt; document 01, "Key set and policy".
 // `Holds` of specs/Sets.antt says which entries a set holds, and that the unused bits are 0. An argument may have
-// unused bits that are 1; the operations clear them. One loop over the words serves all four operations on two sets.
-ghost use Rattle.std.specs.Prelude.{◌≡◌, ◌&&◌, ◌||◌, true, false, ℕ, ◌<◌, ◌≤◌, eqb};
+// unused bits that are 1; the operations clear them. One loop over the words, `zip_words`, serves the four operators.
+ghost use Rattle.std.specs.Prelude.{◌≡◌, ◌&&◌, ◌||◌, true, false, ℕ, ◌<◌, ◌≤◌, ◌^◌, ◌*◌, Bool, eqb, length};
 ghost use Rattle.base.specs.Bits.{one};
 ghost use Rattle.policy_key_set.specs.Sets.{
   but_not,
@@ -10,62 +10,41 @@ ghost use Rattle.policy_key_set.specs.Sets.{
   differ,
   Holds,
   HoldsChars,
-  keeps,
   MadeBy,
+  member,
   same_entries,
   size_of,
 };
 
 use crate::named_sets::{ALL_BITS, CHARSET_WORDS};
-use emoji::VariationSequenceIndex;
+use std::ops::{BitAnd, BitOr, BitXor, Sub};
 
-#[derive(Clone, Copy)]
+#[derive(Clone, Copy, Debug)]
 pub struct CharSet {
     pub bits: [u64; CHARSET_WORDS],
 }
 
-// An operation on two sets.
-#[derive(Clone, Copy)]
-pub enum SetOperation {
-    Union,
-    Intersection,
-    SymmetricDifference,
-    Difference,
-}
-
-// Returns one word of an operation's result. It has only used bits.
-fn combine_words(op: SetOperation, x: u64, y: u64, used: u64) -> u64
-    ensures { (k : ℕ) → k < 64 → one k result ≡ (one k used && keeps op (one k x) (one k y)) }
+// Returns the set whose words `f` makes of the words of two sets, without the unused bits. If `f` acts on each bit as a
+// test says, so does the result on each entry.
+fn zip_words<F: Fn(u64, u64) -> u64>(a: CharSet, b: CharSet, f: F) -> CharSet
+    requires { F.IsAlwaysCallable f }
+    ensures { (g : Bool → Bool → Bool)
+        → ((x y w : ℕ) → x < 2 ^ 64 → y < 2 ^ 64 → F.post f x y w → (k : ℕ) → k < 64 → one k w ≡ g (one k x) (one k y))
+        → MadeBy g a b result }
 {
-    match op {
-        SetOperation::Union => used & (x | y),
-        SetOperation::Intersection => used & (x & y),
-        SetOperation::SymmetricDifference => used & (x ^ y),
-        SetOperation::Difference => used & (x & !y),
+    let mut bits = ALL_BITS;
+    for i in 0..CHARSET_WORDS {
+        bits[i] &= f(a.bits[i], b.bits[i]);
     }
+    CharSet { bits }
 }
 
-// Computes an operation on two sets, word by word.
-fn combine(op: SetOperation, a: CharSet, b: CharSet) -> CharSet
-    ensures { MadeBy (keeps op) a b result }
+// Counts the ones of words.
+fn count_ones(words: &[u64]) -> u32
+    requires { length words.now ≤ 6 }
+    ensures { (m : ℕ) → length words.now ≡ m → result ≡ count_below (m * 64) (λ (i : ℕ). member i words.now) }
 {
-    let x = a.bits;
-    let y = b.bits;
-    let used = ALL_BITS;
-    let mut z = [0u64; CHARSET_WORDS];
-    let mut i = 0;
-    while i < CHARSET_WORDS {
-        z[i] = combine_words(op, x[i], y[i], used[i]);
-        i += 1;
-    }
-    CharSet { bits: z }
-}
-
-// Counts the ones of a word.
-fn count_ones(w: u64) -> u32
-    ensures { (result ≡ count_below 64 (λ (k : ℕ). one k w)) × (result ≤ 64) }
-{
-    u64::count_ones(w)
+    words.iter().map(|word| word.count_ones()).sum()
 }
 
 // Returns the word whose only one is bit k.
@@ -95,69 +74,75 @@ impl CharSet {
     pub fn singleton(ch: u32) -> Self
         ensures { HoldsChars (λ (c : ℕ). eqb c ch) result.bits }
     {
-        let mut z = [0u64; CHARSET_WORDS];
-        match emoji::variation_sequence_index(ch) {
-            VariationSequenceIndex::At(index) => {
-                z[index / 64] = bit(index % 64);
-                CharSet { bits: z }
-            }
-            VariationSequenceIndex::NoEntry => CharSet { bits: z },
+        let mut bits = [0; CHARSET_WORDS];
+        if let Some(index) = emoji::variation_sequence_index(ch) {
+            bits[index / 64] = bit(index % 64);
         }
+        CharSet { bits }
     }
 
     pub fn contains(self, ch: u32) -> bool
         ensures { result ≡ contains ch self.bits }
     {
-        let words = self.bits;
         match emoji::variation_sequence_index_by_block(ch) {
-            VariationSequenceIndex::At(index) => base::has_bit(words[index / 64], index),
-            VariationSequenceIndex::NoEntry => false,
+            Some(index) => base::has_bit(self.bits[index / 64], index),
+            None => false,
         }
-    }
-
-    pub fn bitor(self, rhs: Self) -> Self
-        ensures { MadeBy ◌||◌ self rhs result }
-    {
-        combine(SetOperation::Union, self, rhs)
-    }
-
-    pub fn bitand(self, rhs: Self) -> Self
-        ensures { MadeBy ◌&&◌ self rhs result }
-    {
-        combine(SetOperation::Intersection, self, rhs)
-    }
-
-    pub fn bitxor(self, rhs: Self) -> Self
-        ensures { MadeBy differ self rhs result }
-    {
-        combine(SetOperation::SymmetricDifference, self, rhs)
-    }
-
-    pub fn sub(self, rhs: Self) -> Self
-        ensures { MadeBy but_not self rhs result }
-    {
-        combine(SetOperation::Difference, self, rhs)
     }
 
     // Returns the number of entries in the set.
     pub fn size(self) -> u32
         ensures { result ≡ size_of self.bits }
     {
-        let cleared = CharSet::bitand(self, CharSet::all());
-        let words = cleared.bits;
-        let mut n: u32 = 0;
-        let mut i = 0;
-        while i < CHARSET_WORDS {
-            n += count_ones(words[i]);
-            i += 1;
-        }
-        n
+        let cleared = self & CharSet::all();
+        count_ones(&cleared.bits)
     }
 
-    // Tests whether two sets hold the same entries: no entry is in exactly one of them.
+    // Tests whether two sets hold the same entries: no entry is in exactly one of them. It passes over the unused bits, so
+    // a derived `==` would not do.
     pub fn eq(self, rhs: Self) -> bool
         ensures { result ≡ same_entries self.bits rhs.bits }
     {
-        CharSet::size(CharSet::bitxor(self, rhs)) == 0
+        (self ^ rhs).size() == 0
+    }
+}
+
+impl BitOr for CharSet {
+    type Output = Self;
+
+    ghost bitor_gives = { MadeBy ◌||◌ };
+
+    fn bitor(self, rhs: Self) -> Self {
+        zip_words(self, rhs, |x, y| x | y)
+    }
+}
+
+impl BitAnd for CharSet {
+    type Output = Self;
+
+    ghost bitand_gives = { MadeBy ◌&&◌ };
+
+    fn bitand(self, rhs: Self) -> Self {
+        zip_words(self, rhs, |x, y| x & y)
+    }
+}
+
+impl BitXor for CharSet {
+    type Output = Self;
+
+    ghost bitxor_gives = { MadeBy differ };
+
+    fn bitxor(self, rhs: Self) -> Self {
+        zip_words(self, rhs, |x, y| x ^ y)
+    }
+}
+
+impl Sub for CharSet {
+    type Output = Self;
+
+    ghost sub_gives = { MadeBy but_not };
+
+    fn sub(self, rhs: Self) -> Self {
+        zip_words(self, rhs, |x, y| x & !y)
     }
 }

@@ -1,7 +1,7 @@
 // The display of a key set: `Display` for `PolicyKeySet` of policy_key_set.rs of the crate evfmt. The text is `display`
 // of specs/Display.antt. The caller lends the output buffer. So the code computes the text's length first, and writes
 // the text only if it fits (document 01, "Turned back", number 8).
-ghost use Rattle.std.specs.Prelude.{◌≡◌, true, false, ◌+◌, ◌<◌, ◌≤◌, length};
+ghost use Rattle.std.specs.Prelude.{◌≡◌, true, false, ◌+◌, ◌%◌, ◌≤◌, length};
 ghost use Rattle.base.specs.Output.{PutAt, Wrote};
 ghost use Rattle.emoji.specs.UnicodeData.{variation_entries};
 ghost use Rattle.policy_key_set.specs.Display.{
@@ -19,30 +19,45 @@ ghost use Rattle.policy_key_set.specs.Display.{
 
 use crate::PolicyKeySet;
 use crate::char_set::CharSet;
-use base::WriteAnswer;
+use base::Refusal;
 use emoji::unicode_data::VARIATION_ENTRY_COUNT;
 use emoji::variation_char;
 
-fn hex_digit(d: u32) -> u8
-    requires { d < 16 }
-    ensures { result ≡ hex_digit d }
+// Returns the last hexadecimal digit of a number.
+#[tactic(auto, unfolding(crate::specs::Display::hex_digit))]
+fn hex_digit(n: u32) -> u8
+    ensures { result ≡ hex_digit (n % 16) }
 {
-    if d < 10 {
-        return (48 + d) as u8;
+    match (n % 16) as u8 {
+        d if d < 10 => b'0' + d,
+        d => b'A' + (d - 10),
     }
-    (55 + d) as u8
 }
 
+// Returns the last six hexadecimal digits of a number, upper-case. A code point has no more.
+#[tactic(auto, unfolding(crate::specs::Display::hex_digits))]
+pub fn hex_digits(n: u32) -> [u8; 6]
+    ensures { result ≡ hex_digits 6 n }
+{
+    [
+        hex_digit(n >> 20),
+        hex_digit(n >> 16),
+        hex_digit(n >> 12),
+        hex_digit(n >> 8),
+        hex_digit(n >> 4),
+        hex_digit(n),
+    ]
+}
+
+#[tactic(auto, unfolding(crate::specs::Display::hex_width))]
 fn hex_width(ch: u32) -> usize
     ensures { (result ≡ hex_width ch) × (result ≤ 6) }
 {
-    if ch < 0x10000 {
-        return 4;
+    match ch {
+        0..=0xFFFF => 4,
+        0x10000..=0xFFFFF => 5,
+        _ => 6,
     }
-    if ch < 0x100000 {
-        return 5;
-    }
-    6
 }
 
 // Writes bytes that fit at an offset, and returns the offset after them.
@@ -54,30 +69,12 @@ fn put_bytes(out: &mut [u8], start: usize, bytes: &[u8]) -> usize
     start + bytes.len()
 }
 
-// Writes the last hexadecimal digits of a number.
-fn put_hex(out: &mut [u8], start: usize, ch: u32, width: usize) -> usize
-    requires { (width ≤ 6) × (start + width ≤ length out.old) }
-    ensures { PutAt out.old start (hex_digits width ch) out.new result }
+// Returns the part of a key's text before the code point.
+#[tactic(auto, unfolding(crate::specs::Display::opening))]
+fn opening(keycap: bool) -> &'static [u8]
+    ensures { (result.now ≡ opening keycap) × (length result.now ≤ 9) }
 {
-    let mut at = start;
-    let mut k = width;
-    while 0 < k {
-        k -= 1;
-        out[at] = hex_digit((ch >> (4 * k)) % 16);
-        at += 1;
-    }
-    at
-}
-
-// Writes the part of a key's text before the code point.
-fn put_opening(out: &mut [u8], start: usize, keycap: bool) -> usize
-    requires { start + length (opening keycap) ≤ length out.old }
-    ensures { PutAt out.old start (opening keycap) out.new result }
-{
-    if keycap {
-        return put_bytes(out, start, b"keycap:u(");
-    }
-    put_bytes(out, start, b"u(")
+    if keycap { b"keycap:u(" } else { b"u(" }
 }
 
 // Writes the text of a key.
@@ -85,9 +82,8 @@ fn put_text(out: &mut [u8], start: usize, keycap: bool, ch: u32) -> usize
     requires { start + length (key_text keycap ch) ≤ length out.old }
     ensures { PutAt out.old start (key_text keycap ch) out.new result }
 {
-    let i = put_opening(out, start, keycap);
-    let width = hex_width(ch);
-    let j = put_hex(out, i, ch, width);
+    let i = put_bytes(out, start, opening(keycap));
+    let j = put_bytes(out, i, &hex_digits(ch)[6 - hex_width(ch)..]);
     put_bytes(out, j, b")")
 }
 
@@ -104,14 +100,11 @@ fn put_key(out: &mut [u8], start: usize, keycap: bool, ch: u32) -> usize
 }
 
 // Returns the number of bytes of a key's text.
+#[tactic(auto, using(crate::proofs::Texts::text_length))]
 fn text_len(keycap: bool, ch: u32) -> usize
     ensures { (result ≡ length (key_text keycap ch)) × (result ≤ 16) }
 {
-    let width = hex_width(ch);
-    if keycap {
-        return 9 + (width + 1);
-    }
-    2 + (width + 1)
+    opening(keycap).len() + (hex_width(ch) + 1)
 }
 
 // Returns the number of bytes that `put_key` writes.
@@ -131,13 +124,11 @@ fn keys_end(start: usize, keycap: bool, set: CharSet) -> usize
     ensures { (result ≡ start + length (written_from start (key_texts keycap set.bits 0 variation_entries))) × (result ≤ start + 0x2000) }
 {
     let mut at = start;
-    let mut i = 0;
-    while i < VARIATION_ENTRY_COUNT {
+    for i in 0..VARIATION_ENTRY_COUNT {
         let ch = variation_char(i);
-        if CharSet::contains(set, ch) {
+        if set.contains(ch) {
             at += key_len(at, keycap, ch);
         }
-        i += 1;
     }
     at
 }
@@ -149,56 +140,49 @@ fn put_keys(out: &mut [u8], start: usize, keycap: bool, set: CharSet) -> usize
         out.new result }
 {
     let mut at = start;
-    let mut i = 0;
-    while i < VARIATION_ENTRY_COUNT {
+    for i in 0..VARIATION_ENTRY_COUNT {
         let ch = variation_char(i);
-        if CharSet::contains(set, ch) {
+        if set.contains(ch) {
             at = put_key(out, at, keycap, ch);
         }
-        i += 1;
     }
     at
 }
 
 // Writes the list of the keys, or refuses.
-fn show_keys(set: PolicyKeySet, out: &mut [u8]) -> WriteAnswer
+fn show_keys(set: PolicyKeySet, out: &mut [u8]) -> Result<usize, Refusal>
     ensures { Wrote (key_list set) out.old out.new result }
 {
-    let chars = set.chars;
-    let keycap_chars = set.keycap_chars;
-    let wanted = keys_end(keys_end(0, false, chars), true, keycap_chars);
+    let wanted = keys_end(keys_end(0, false, set.chars), true, set.keycap_chars);
     if wanted <= out.len() {
-        let at = put_keys(out, 0, false, chars);
-        put_keys(out, at, true, keycap_chars);
-        return WriteAnswer::Written { len: wanted };
+        let at = put_keys(out, 0, false, set.chars);
+        put_keys(out, at, true, set.keycap_chars);
+        return Ok(wanted);
     }
-    WriteAnswer::TooShort { wanted }
+    Err(Refusal::OutputTooShort { wanted })
 }
 
 // Writes a word, or refuses.
-fn show_word(word: &[u8], out: &mut [u8]) -> WriteAnswer
+fn show_word(word: &[u8], out: &mut [u8]) -> Result<usize, Refusal>
     ensures { Wrote word.now out.old out.new result }
 {
     if word.len() <= out.len() {
         put_bytes(out, 0, word);
-        return WriteAnswer::Written { len: word.len() };
+        return Ok(word.len());
     }
-    WriteAnswer::TooShort { wanted: word.len() }
+    Err(Refusal::OutputTooShort { wanted: word.len() })
 }
 
 impl PolicyKeySet {
     // Writes the display of a key set, or refuses. Only the empty set has the size 0, and only the set of all keys
     // has the size 708 = 2 * 354.
-    pub fn fmt(self, out: &mut [u8]) -> WriteAnswer
+    pub fn fmt(self, out: &mut [u8]) -> Result<usize, Refusal>
         ensures { Wrote (display self) out.old out.new result }
     {
-        let size = PolicyKeySet::size(self);
-        if size == 0 {
-            return show_word(b"none", out);
+        match self.size() {
+            0 => show_word(b"none", out),
+            708 => show_word(b"all", out),
+            _ => show_keys(self, out),
         }
-        if size == 708 {
-            return show_word(b"all", out);
-        }
-        show_keys(self, out)
     }
 }

@@ -29,8 +29,9 @@ use char_set::CharSet;
 use named_sets::{
     ASCII_BITS, CHARSET_WORDS, EMOJI_DEFAULT_BITS, KEYCAP_RGI_BITS, TEXT_DEFAULT_BITS,
 };
+use std::ops::{BitAnd, BitOr, BitXor, Not, Sub};
 
-#[derive(Clone, Copy)]
+#[derive(Clone, Copy, Debug)]
 pub struct PolicyKeySet {
     pub chars: CharSet,
     pub keycap_chars: CharSet,
@@ -44,7 +45,7 @@ pub fn is_variation_sequence_character(ch: u32) -> bool
 }
 
 // The rules that define the named sets.
-#[derive(Clone, Copy)]
+#[derive(Clone, Copy, Debug, PartialEq, Eq)]
 pub enum NamedSet {
     Ascii,
     TextDefaults,
@@ -171,12 +172,6 @@ impl PolicyKeySet {
         }
     }
 
-    pub fn default() -> Self
-        ensures { HoldsKeys (λ (i : ℕ). false) (λ (i : ℕ). false) result }
-    {
-        PolicyKeySet::none()
-    }
-
     // Returns the set of the ordinary key of a character. It is empty if the character is no variation entry.
     pub fn singleton(ch: u32) -> Self
         ensures { OrdinaryChars (λ (c : ℕ). eqb c ch) result }
@@ -200,73 +195,99 @@ impl PolicyKeySet {
     pub fn contains(self, ch: u32) -> bool
         ensures { result ≡ contains ch self.chars.bits }
     {
-        CharSet::contains(self.chars, ch)
+        self.chars.contains(ch)
     }
 
     pub fn contains_keycap(self, ch: u32) -> bool
         ensures { result ≡ contains ch self.keycap_chars.bits }
     {
-        CharSet::contains(self.keycap_chars, ch)
+        self.keycap_chars.contains(ch)
     }
 
-    pub fn bitor(self, rhs: Self) -> Self
-        ensures { KeysMadeBy ◌||◌ self rhs result }
+    // Returns the set that `f` makes of the ordinary keys of two sets, and of their keycap keys.
+    fn map2<F: Fn(CharSet, CharSet) -> CharSet>(self, rhs: Self, f: F) -> Self
+        requires { F.IsAlwaysCallable f }
+        ensures ordinary { F.post f self.chars rhs.chars result.chars }
+        ensures keycap { F.post f self.keycap_chars rhs.keycap_chars result.keycap_chars }
     {
         Self {
-            chars: CharSet::bitor(self.chars, rhs.chars),
-            keycap_chars: CharSet::bitor(self.keycap_chars, rhs.keycap_chars),
+            chars: f(self.chars, rhs.chars),
+            keycap_chars: f(self.keycap_chars, rhs.keycap_chars),
         }
-    }
-
-    pub fn bitand(self, rhs: Self) -> Self
-        ensures { KeysMadeBy ◌&&◌ self rhs result }
-    {
-        Self {
-            chars: CharSet::bitand(self.chars, rhs.chars),
-            keycap_chars: CharSet::bitand(self.keycap_chars, rhs.keycap_chars),
-        }
-    }
-
-    pub fn bitxor(self, rhs: Self) -> Self
-        ensures { KeysMadeBy differ self rhs result }
-    {
-        Self {
-            chars: CharSet::bitxor(self.chars, rhs.chars),
-            keycap_chars: CharSet::bitxor(self.keycap_chars, rhs.keycap_chars),
-        }
-    }
-
-    // Returns the difference of two sets.
-    pub fn sub(self, rhs: Self) -> Self
-        ensures { KeysMadeBy but_not self rhs result }
-    {
-        Self {
-            chars: CharSet::sub(self.chars, rhs.chars),
-            keycap_chars: CharSet::sub(self.keycap_chars, rhs.keycap_chars),
-        }
-    }
-
-    // Returns the complement: the keys that are not in the set.
-    pub fn not(self) -> Self
-        ensures { HoldsKeys (λ (i : ℕ). not (ordinary self i)) (λ (i : ℕ). not (keycap self i)) result }
-    {
-        PolicyKeySet::sub(PolicyKeySet::all(), self)
     }
 
     // Tests whether two sets hold the same keys.
     pub fn eq(self, rhs: Self) -> bool
         ensures { result ≡ same_keys self rhs }
     {
-        if CharSet::eq(self.chars, rhs.chars) {
-            return CharSet::eq(self.keycap_chars, rhs.keycap_chars);
-        }
-        false
+        self.chars.eq(rhs.chars) && self.keycap_chars.eq(rhs.keycap_chars)
     }
 
     // Returns the number of keys of both domains.
     pub fn size(self) -> u32
         ensures { result ≡ keys_size self }
     {
-        CharSet::size(self.chars) + CharSet::size(self.keycap_chars)
+        self.chars.size() + self.keycap_chars.size()
+    }
+}
+
+// The empty set.
+impl Default for PolicyKeySet {
+    ghost is_default = { HoldsKeys (λ (i : ℕ). false) (λ (i : ℕ). false) };
+
+    fn default() -> Self {
+        PolicyKeySet::none()
+    }
+}
+
+impl BitOr for PolicyKeySet {
+    type Output = Self;
+
+    ghost bitor_gives = { KeysMadeBy ◌||◌ };
+
+    fn bitor(self, rhs: Self) -> Self {
+        self.map2(rhs, |a, b| a | b)
+    }
+}
+
+impl BitAnd for PolicyKeySet {
+    type Output = Self;
+
+    ghost bitand_gives = { KeysMadeBy ◌&&◌ };
+
+    fn bitand(self, rhs: Self) -> Self {
+        self.map2(rhs, |a, b| a & b)
+    }
+}
+
+impl BitXor for PolicyKeySet {
+    type Output = Self;
+
+    ghost bitxor_gives = { KeysMadeBy differ };
+
+    fn bitxor(self, rhs: Self) -> Self {
+        self.map2(rhs, |a, b| a ^ b)
+    }
+}
+
+// The difference of two sets.
+impl Sub for PolicyKeySet {
+    type Output = Self;
+
+    ghost sub_gives = { KeysMadeBy but_not };
+
+    fn sub(self, rhs: Self) -> Self {
+        self.map2(rhs, |a, b| a - b)
+    }
+}
+
+// The complement: the keys that are not in the set.
+impl Not for PolicyKeySet {
+    type Output = Self;
+
+    ghost not_gives = { λ s r. HoldsKeys (λ (i : ℕ). not (ordinary s i)) (λ (i : ℕ). not (keycap s i)) r };
+
+    fn not(self) -> Self {
+        PolicyKeySet::all() - self
     }
 }

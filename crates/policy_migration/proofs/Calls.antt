@@ -1,4 +1,7 @@
 -- The call: its refusals in order, and our own table.
+use Rattle.base.specs.declared.Refusal.{Refusal}
+use Rattle.base.specs.Answers.{answer_row}
+use Rattle.std.specs.Prelude.{Ok, Err, Result}
 use mathlib.Core.Path.{◌≡◌, refl, ap, ap₂, ◌∙◌}
 use mathlib.Core.Logic.{⊎_elim}
 use mathlib.Core.Bool.{Bool, true, false, cond, not, ◌&&◌}
@@ -23,15 +26,12 @@ use Rattle.policy_key_set.proofs.Entries.{entries_length}
 use Rattle.policy.specs.PolicyBytes.{PolicyValue, no_unused_bit, no_unused_bits, numbers_of, policy_bytes, words_from}
 use Rattle.policy.specs.declared.Policy.{Policy}
 use Rattle.policy.proofs.RoundTrips.{read_words}
-use Rattle.policy_migration.specs.declared.CarryAnswer.{CarryAnswer}
-use Rattle.policy_migration.specs.declared.CarryAnswer.TheVariants.{Refused, Written}
 use Rattle.policy_migration.specs.Carry.{
   WhichSet,
   bare_as_text_set,
   bare_as_text_keycap_set,
   carried,
   carry_call,
-  carry_row,
   is_entry_list,
   is_old_list,
   is_old_policy,
@@ -50,11 +50,11 @@ module _ (old policy out : List ℕ) where
   abbrev pub result : List ℕ
   result = policy_bytes (carried old policy)
 
-  abbrev pub by_tests_lem : (listed fit room : Bool) → After CarryAnswer ℕ
+  abbrev pub by_tests_lem : (listed fit room : Bool) → After (Result ℕ Refusal) ℕ
   by_tests_lem listed fit room =
-      cond (not listed) (unwritten (Refused NotAnEntryList) out)
-      (cond (not fit) (unwritten (Refused NotAPolicy) out)
-      (cond room (written (Written (length result)) result out) (unwritten (Refused (OutputTooShort (length result))) out)))
+      cond (not listed) (unwritten (Err NotAnEntryList) out)
+      (cond (not fit) (unwritten (Err NotAPolicy) out)
+      (cond room (written (Ok (length result)) result out) (unwritten (Err (OutputTooShort (length result))) out)))
 
 pub call_is : (entries policy out : List ℕ) (listed fit room : Bool) → is_entry_list entries policy ≡ listed
     → is_old_policy (numbers_of entries) policy ≡ fit → leb (length (result (numbers_of entries) policy out)) (length out) ≡ room
@@ -68,13 +68,13 @@ call_is entries policy out listed fit room p q r =
     ∙ ap (λ (t : Bool). by_tests_lem old policy out listed fit t) r
 
 pub in_order : (entries policy out : List ℕ)
-    → (is_entry_list entries policy ≡ false → carry_call entries policy out ≡ unwritten (Refused NotAnEntryList) out)
+    → (is_entry_list entries policy ≡ false → carry_call entries policy out ≡ unwritten (Err NotAnEntryList) out)
     × (is_entry_list entries policy ≡ true → is_old_policy (numbers_of entries) policy ≡ false
-    → carry_call entries policy out ≡ unwritten (Refused NotAPolicy) out)
+    → carry_call entries policy out ≡ unwritten (Err NotAPolicy) out)
     × (is_entry_list entries policy ≡ true → is_old_policy (numbers_of entries) policy ≡ true → length out < 200
-    → carry_call entries policy out ≡ unwritten (Refused (OutputTooShort 200)) out)
+    → carry_call entries policy out ≡ unwritten (Err (OutputTooShort 200)) out)
     × (is_entry_list entries policy ≡ true → is_old_policy (numbers_of entries) policy ≡ true → 200 ≤ length out
-    → carry_call entries policy out ≡ written (Written 200) (policy_bytes (carried (numbers_of entries) policy)) out)
+    → carry_call entries policy out ≡ written (Ok 200) (policy_bytes (carried (numbers_of entries) policy)) out)
 in_order entries policy out =
     let old = numbers_of entries in
     let n : length (result old policy out) ≡ 200 = carried_length old policy in (
@@ -86,26 +86,26 @@ in_order entries policy out =
           ∙ ap (λ (k : ℕ). done k (result old policy out) out) n,
     )
   where
-    short : ℕ → List ℕ → After CarryAnswer ℕ
-    short k out = unwritten (Refused (OutputTooShort k)) out
+    short : ℕ → List ℕ → After (Result ℕ Refusal) ℕ
+    short k out = unwritten (Err (OutputTooShort k)) out
 
-    done : ℕ → List ℕ → List ℕ → After CarryAnswer ℕ
-    done k r out = written (Written k) r out
+    done : ℕ → List ℕ → List ℕ → After (Result ℕ Refusal) ℕ
+    done k r out = written (Ok k) r out
 
 -- The value of the answer is at most the number of bytes of a policy.
-pub call-small : (entries policy out : List ℕ) → (carry_row (carry_call entries policy out).answer).value ≤ 200
-unfolding carry_row
+pub call-small : (entries policy out : List ℕ) → (answer_row (carry_call entries policy out).answer).value ≤ 200
+unfolding answer_row
 call-small entries policy out =
     let old = numbers_of entries in
     omega (
       arith,
-      ap (λ (a : After CarryAnswer ℕ). (carry_row a.answer).value) (call_is entries policy out _ _ _ refl refl refl),
+      ap (λ (a : After (Result ℕ Refusal) ℕ). (answer_row a.answer).value) (call_is entries policy out _ _ _ refl refl refl),
       go (is_entry_list entries policy) (is_old_policy old policy) (leb (length (result old policy out)) (length out))
           (carried_length old policy),
     )
   where
     go : (listed fit room : Bool) → length (policy_bytes (carried (numbers_of entries) policy)) ≡ 200
-        → (carry_row (by_tests_lem (numbers_of entries) policy out listed fit room).answer).value ≤ 200
+        → (answer_row (by_tests_lem (numbers_of entries) policy out listed fit room).answer).value ≤ 200
     go false fit room h = omega arith
     go true false room h = omega arith
     go true true true h = omega arith
@@ -158,7 +158,7 @@ module _ (p : Policy) (v : PolicyValue p) (u : no_unused_bits p ≡ true) (versi
       (and_both _ _ (no_old bare_as_text_set) (no_old bare_as_text_keycap_set))
 
   pub home_call : (out : List ℕ) → 200 ≤ length out
-      → carry_call (bytes_of variation_entries) Vs out ≡ written (Written 200) (policy_bytes p)
+      → carry_call (bytes_of variation_entries) Vs out ≡ written (Ok 200) (policy_bytes p)
       out
   home_call out h =
       let E = bytes_of variation_entries in
@@ -169,5 +169,5 @@ module _ (p : Policy) (v : PolicyValue p) (u : no_unused_bits p ≡ true) (versi
       ∙ ap₂ (λ (k : ℕ) (l : List ℕ). done k l) n (ap (λ (l : List ℕ). policy_bytes (carried l Vs)) our_list ∙ ap policy_bytes
       (home p v u version))
     where
-      done : ℕ → List ℕ → After CarryAnswer ℕ
-      done k l = written (Written k) l out
+      done : ℕ → List ℕ → After (Result ℕ Refusal) ℕ
+      done k l = written (Ok k) l out

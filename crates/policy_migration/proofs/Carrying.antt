@@ -1,4 +1,5 @@
 -- What a carried policy holds.
+use Rattle.std.specs.Prelude.{Some, None, Option}
 use mathlib.Core.Path.{◌≡◌, refl, ap, ap₂, sym, ◌∙◌}
 use mathlib.Core.Logic.{⊎_elim}
 use mathlib.Core.Bool.{Bool, true, false, cond, not, ◌&&◌, ◌||◌, true≢false}
@@ -17,8 +18,6 @@ use Rattle.emoji.specs.Tables.{index_of}
 use Rattle.emoji.specs.Tables as Tables
 use Rattle.emoji.specs.Unicode.{has_variation_sequence, variation_sequence_index}
 use Rattle.emoji.specs.UnicodeData.{unicode_version, variation_entries}
-use Rattle.emoji.specs.declared.VariationSequenceIndex.{VariationSequenceIndex}
-use Rattle.emoji.specs.declared.VariationSequenceIndex.TheVariants as Index
 use Rattle.emoji.proofs.Ascent.{is_at, member_index}
 use Rattle.policy_key_set.proofs.TestWords.{words_hold, words_many, words_small}
 use Rattle.policy_key_set.specs.Sets.{contains, entry_count, member, member_at, word_count}
@@ -97,10 +96,10 @@ module _ (old policy : List ℕ) where
       (member i (set_in default_policy k)))
       (lt-ltb i entry_count l)
 
-  by_index : (r : VariationSequenceIndex) (ws : List ℕ) (new : Bool) → kept_or r ws new ≡ cond (is_at r) (member_at r ws) new
+  by_index : (r : Option ℕ) (ws : List ℕ) (new : Bool) → kept_or r ws new ≡ cond (is_at r) (member_at r ws) new
   unfolding is_at member_at
-  by_index (Index.At j) ws new = refl
-  by_index Index.NoEntry ws new = refl
+  by_index (Some j) ws new = refl
+  by_index None ws new = refl
 
   -- By character.
   pub members : (k : WhichSet) (c : ℕ) → has_variation_sequence c ≡ true
@@ -109,10 +108,10 @@ module _ (old policy : List ℕ) where
   unfolding is_at
   members k c e = go (variation_sequence_index c) refl
     where
-      go : (r : VariationSequenceIndex) → variation_sequence_index c ≡ r
+      go : (r : Option ℕ) → variation_sequence_index c ≡ r
           → contains c (set_in (carried old policy) k) ≡ cond (Tables.member c old) (member_at (index_of c old) (old_set old policy k))
           (contains c (set_in default_policy k))
-      go (Index.At i) q =
+      go (Some i) q =
           let p = index_has_place c i q in
           let D = set_in default_policy k in
           let O = old_set old policy k in
@@ -122,7 +121,7 @@ module _ (old policy : List ℕ) where
           ∙ ap (λ (x : ℕ). kept_or (index_of x old) O (member i D)) p.1
           ∙ by_index (index_of c old) O (member i D)
           ∙ ap₂ (λ (t b : Bool). cond t (member_at (index_of c old) O) b) (sym (member_index c old)) (sym (at D))
-      go Index.NoEntry q = absurd (true≢false (sym e ∙ has_index c ∙ ap is_at q))
+      go None q = absurd (true≢false (sym e ∙ has_index c ∙ ap is_at q))
 
   -- ---- a policy of ours
 
@@ -228,7 +227,7 @@ module _ (p : Policy) (v : PolicyValue p) (u : no_unused_bits p ≡ true) (versi
       go true q = absurd (true≢false (sym q ∙ ap (λ (t : Bool). t || false) (le-ltb i entry_count l)))
       go false q = refl
 
-  our_index : (i : ℕ) → i < entry_count → index_of (get_or variation_entries i 0) variation_entries ≡ Index.At i
+  our_index : (i : ℕ) → i < entry_count → index_of (get_or variation_entries i 0) variation_entries ≡ Some i
   unfolding variation_sequence_index
   our_index i l = place-has_index i l
 
@@ -236,7 +235,7 @@ module _ (p : Policy) (v : PolicyValue p) (u : no_unused_bits p ≡ true) (versi
   same-member k i =
       ⊎_elim (λ l. held variation_entries Vs k i ∙ past variation_entries Vs k i l ∙ sym (no_member k i l))
       (λ l. held variation_entries Vs k i ∙ at_entry variation_entries Vs k i l
-      ∙ ap (λ (r : VariationSequenceIndex). kept_or r (old_set variation_entries Vs k) (member i (set_in default_policy k))) (our_index i l)
+      ∙ ap (λ (r : Option ℕ). kept_or r (old_set variation_entries Vs k) (member i (set_in default_policy k))) (our_index i l)
       ∙ ap (member i) (old_set_lem k)) (le_or_lt entry_count i)
 
   same_set : (k : WhichSet) → carried_set variation_entries Vs k ≡ set_in p k

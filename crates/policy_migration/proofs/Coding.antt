@@ -1,4 +1,5 @@
 -- Laws that the functions' proofs cite.
+use Rattle.std.specs.Prelude.{Some, None}
 use mathlib.Core.Path.{◌≡◌, refl, ap, ap₂, sym, ◌∙◌}
 use mathlib.Core.Bool.{Bool, true, false, not, ◌&&◌, ◌||◌, true≢false}
 use mathlib.Core.Logic.{⊎_elim}
@@ -12,7 +13,6 @@ use Rattle.base.specs.Bits.{one}
 use Rattle.base.specs.Words.{number}
 use Rattle.base.proofs.Tests.{and_both, both_true, either_left, either-right, fails, le_or_lt}
 use Rattle.emoji.specs.Tables.{ascending, ascending_from, index_of}
-use Rattle.emoji.specs.declared.VariationSequenceIndex.TheVariants as Index
 use Rattle.emoji.proofs.Ascent.{ascending_le, ascending_lt, index_first, index_none}
 use Rattle.emoji.specs.UnicodeData.{variation_entries}
 use Rattle.policy_key_set.specs.Sets.{all_below, entry_count, member, word_count}
@@ -125,10 +125,10 @@ module _ (xs : List ℕ) (asc : ascending xs ≡ true) (c : ℕ) where
       ne-lt : (x : ℕ) → (x ≡ c → ⊥) → c ≤ x → c < x
       ne-lt x n h = omega arith
 
-  pub found_at : (m : ℕ) → m < length xs → get_or xs m 0 ≡ c → index_of c xs ≡ Index.At m
+  pub found_at : (m : ℕ) → m < length xs → get_or xs m 0 ≡ c → index_of c xs ≡ Some m
   found_at m l e = index_first c xs m l e (λ j k q. let z = ascending_lt xs asc j m k l in omega arith)
 
-  pub found_none : (lo hi : ℕ) → hi ≤ lo → Below lo → Above hi → index_of c xs ≡ Index.NoEntry
+  pub found_none : (lo hi : ℕ) → hi ≤ lo → Below lo → Above hi → index_of c xs ≡ None
   found_none lo hi h b a =
       index_none c xs (λ k l e. ⊎_elim (λ g. let z = a k (omega arith) l in omega arith) (λ g. let z = b k g l in omega arith)
       (le_or_lt lo k))

@@ -1,4 +1,6 @@
 -- The words of the result, the tests of the old list and the old policy, and the call.
+use Rattle.base.specs.declared.Refusal.{Refusal}
+use Rattle.std.specs.Prelude.{Ok, Err, Result}
 use mathlib.Core.Path.{◌≡◌, refl, ap, ap₂, sym, ◌∙◌}
 use mathlib.Core.Bool.{Bool, true, false, not, ◌&&◌, ◌||◌}
 use mathlib.Core.Logic.{⊎_elim}
@@ -22,8 +24,6 @@ use Rattle.policy_key_set.specs.Sets.{all_below, member}
 use Rattle.policy.specs.PolicyBytes.{key_words, numbers_of, policy_bytes, policy_words, words_from}
 use Rattle.policy.specs.declared.Policy.{Policy}
 use Rattle.policy.proofs.RoundTrips.{SixWordSets, many_words}
-use Rattle.policy_migration.specs.declared.CarryAnswer.{CarryAnswer}
-use Rattle.policy_migration.specs.declared.CarryAnswer.TheVariants.{Refused, Written}
 use Rattle.policy_migration.specs.Carry.{
   WhichSet,
   bare_as_text_set,
@@ -210,20 +210,20 @@ module _ (es ps : List ℕ) where
   -- ---- the call
 
   module _ (out : List ℕ) where
-    pub bad-list : Listed ≡ false → ◌≡◌ {A = After CarryAnswer ℕ} (record { answer = Refused NotAnEntryList; buffer = out })
+    pub bad-list : Listed ≡ false → ◌≡◌ {A = After (Result ℕ Refusal) ℕ} (record { answer = Err NotAnEntryList; buffer = out })
         (carry_call es ps out)
     bad-list e = sym ((in_order es ps out).0 e)
 
-    pub bad-policy : Listed ≡ true → is_old_policy old ps ≡ false → ◌≡◌ {A = After CarryAnswer ℕ}
-        (record { answer = Refused NotAPolicy; buffer = out }) (carry_call es ps out)
+    pub bad-policy : Listed ≡ true → is_old_policy old ps ≡ false → ◌≡◌ {A = After (Result ℕ Refusal) ℕ}
+        (record { answer = Err NotAPolicy; buffer = out }) (carry_call es ps out)
     bad-policy e f = sym ((in_order es ps out).1 e f)
 
-    pub no_room : Listed ≡ true → is_old_policy old ps ≡ true → length out < 200 → ◌≡◌ {A = After CarryAnswer ℕ}
-        (record { answer = Refused (OutputTooShort 200); buffer = out }) (carry_call es ps out)
+    pub no_room : Listed ≡ true → is_old_policy old ps ≡ true → length out < 200 → ◌≡◌ {A = After (Result ℕ Refusal) ℕ}
+        (record { answer = Err (OutputTooShort 200); buffer = out }) (carry_call es ps out)
     no_room e f h = sym ((in_order es ps out).2 e f h)
 
     pub carries : Listed ≡ true → is_old_policy old ps ≡ true → 200 ≤ length out → (out' : List ℕ) → out' ≡ sets out 0 (policy_bytes P)
-        → ◌≡◌ {A = After CarryAnswer ℕ} (record { answer = Written 200; buffer = out' }) (carry_call es ps out)
+        → ◌≡◌ {A = After (Result ℕ Refusal) ℕ} (record { answer = Ok 200; buffer = out' }) (carry_call es ps out)
     carries e f h out' q =
         let R = policy_bytes P in
         let n = carried_length old ps in
@@ -231,8 +231,8 @@ module _ (es ps : List ℕ) where
         (zero-front (length R)))
         ∙ sym (call_is es ps out true true true e f (le-leb (length R) (length out) (omega arith)))
       where
-        made : ℕ → List ℕ → After CarryAnswer ℕ
-        made k b = record { answer = Written k; buffer = b }
+        made : ℕ → List ℕ → After (Result ℕ Refusal) ℕ
+        made k b = record { answer = Ok k; buffer = b }
 
         zero-front : (k : ℕ) → 0 + k ≡ k
         zero-front k = omega arith

@@ -1,6 +1,8 @@
 -- The bits that the code reads, and the words that it makes of them.
+use mir.Val.{bool_byte}
+use Rattle.std.specs.Prelude.{Some, None, Option}
 use mathlib.Core.Path.{◌≡◌, refl, ap, ap₂, sym, ◌∙◌}
-use mathlib.Core.Bool.{Bool, false}
+use mathlib.Core.Bool.{Bool, false, true}
 use mathlib.Core.Logic.{⊎_elim}
 use mathlib.Core.List.{List}
 use Prim.Native.Nat.{ℕ, zero, suc, ◌+◌, ◌*◌, ◌-◌, ◌/◌, ◌^◌, ◌≤◌, ◌<◌}
@@ -12,9 +14,6 @@ use Rattle.base.proofs.Tests.{le_or_lt}
 use Rattle.emoji.specs.Tables.{index_of}
 use Rattle.emoji.specs.Unicode.{variation_entry}
 use Rattle.emoji.specs.UnicodeData.{variation_entries}
-use Rattle.emoji.specs.declared.VariationEntry.TheVariants as Entry
-use Rattle.emoji.specs.declared.VariationSequenceIndex.{VariationSequenceIndex}
-use Rattle.emoji.specs.declared.VariationSequenceIndex.TheVariants as Index
 use Rattle.emoji.proofs.Ascent.{entry_in_lem, entry_out, index_holds}
 use Rattle.policy_key_set.proofs.Entries.{six}
 use Rattle.policy_key_set.proofs.TestWords.{word_small}
@@ -56,19 +55,19 @@ place_no (suc (suc (suc (suc k)))) l = absurd (omega arith)
 
 -- ---- an entry of ours
 
-pub entry_char : (i ch : ℕ) → variation_entry i ≡ Entry.Char ch → (i < entry_count) × (get_or variation_entries i 0 ≡ ch)
+pub entry_char : (i ch : ℕ) → variation_entry i ≡ Some ch → (i < entry_count) × (get_or variation_entries i 0 ≡ ch)
 unfolding variation_entry entry_count
 entry_char i ch e =
     ⊎_elim (λ h. let q = entry_out i variation_entries h in let z : ◌≡◌ {A = ℕ} 0 1 = cc in absurd (omega arith))
     (λ h. let q = entry_in_lem i variation_entries h in (h, cc)) (le_or_lt (length variation_entries) i)
 
-pub entry_none : (i : ℕ) → variation_entry i ≡ Entry.NoEntry → entry_count ≤ i
+pub entry_none : (i : ℕ) → variation_entry i ≡ None → entry_count ≤ i
 unfolding variation_entry entry_count
 entry_none i e =
     ⊎_elim (λ h. h) (λ h. let q = entry_in_lem i variation_entries h in let z : ◌≡◌ {A = ℕ} 0 1 = cc in absurd (omega arith))
     (le_or_lt (length variation_entries) i)
 
-pub index_below : (c : ℕ) (xs : List ℕ) (j : ℕ) → index_of c xs ≡ Index.At j → j < length xs
+pub index_below : (c : ℕ) (xs : List ℕ) (j : ℕ) → index_of c xs ≡ Some j → j < length xs
 index_below c xs j e =
     let p = index_holds c xs j e in
     ⊎_elim (λ h. let q = entry_out j xs h in let z : ◌≡◌ {A = ℕ} 0 1 = cc in absurd (omega arith)) (λ h. h) (le_or_lt (length xs) j)
@@ -92,35 +91,35 @@ module _ (es ps : List ℕ) (k i : ℕ) (lk : k < 4) where
   abbrev T : Bool
   T = carried_test old ps (set_at k) i
 
-  pub no_entry_bit : variation_entry i ≡ Entry.NoEntry → false ≡ T
+  pub no_entry_bit : variation_entry i ≡ None → false ≡ T
   no_entry_bit e = sym (past old ps (set_at k) i (entry_none i e))
 
-  module _ (ch : ℕ) (e : variation_entry i ≡ Entry.Char ch) where
+  module _ (ch : ℕ) (e : variation_entry i ≡ Some ch) where
     abbrev D : Bool
     D = member i (set_in default_policy (set_at k))
 
-    by_index : (r : VariationSequenceIndex) → index_of ch old ≡ r → T ≡ kept_or r (old_set old ps (set_at k)) D
+    by_index : (r : Option ℕ) → index_of ch old ≡ r → T ≡ kept_or r (old_set old ps (set_at k)) D
     by_index r q =
         let p = entry_char i ch e in
         at_entry old ps (set_at k) i p.0 ∙ ap (λ (x : ℕ). kept_or (index_of x old) (old_set old ps (set_at k)) D) p.1
-        ∙ ap (λ (x : VariationSequenceIndex). kept_or x (old_set old ps (set_at k)) D) q
+        ∙ ap (λ (x : Option ℕ). kept_or x (old_set old ps (set_at k)) D) q
 
-    pub old-entry-bit : (j : ℕ) → index_of ch old ≡ Index.At j → (b : Bool) → b ≡ member j
+    pub old-entry-bit : (j : ℕ) → index_of ch old ≡ Some j → (b : Bool) → b ≡ member j
         (words_from ((length es / 8 + 63) / 64) (8 + k * ((length es / 8 + 63) / 64 * 8)) ps) → b ≡ T
     unfolding old_set
     old-entry-bit j q b h =
         let w = (length es / 8 + 63) / 64 in
         h ∙ ap (λ (x : ℕ). member j (words_from w (8 + x * (w * 8)) ps)) (sym (place_no k lk))
         ∙ ap (λ (n : ℕ). member j (words_from ((n + 63) / 64) (8 + place_of (set_at k) * ((n + 63) / 64 * 8)) ps)) (sym (many-numbers es))
-        ∙ sym (by_index (Index.At j) q)
+        ∙ sym (by_index (Some j) q)
 
-    pub new-entry-bit : index_of ch old ≡ Index.NoEntry → (ds : List ℕ) → ds ≡ policy_bytes default_policy → (b : Bool) → b ≡ member i
+    pub new-entry-bit : index_of ch old ≡ None → (ds : List ℕ) → ds ≡ policy_bytes default_policy → (b : Bool) → b ≡ member i
         (words_from 6 (8 + k * 48) ds) → b ≡ T
     new-entry-bit q ds d b h =
         h ∙ ap (λ (l : List ℕ). member i (words_from 6 (8 + k * 48) l)) d
         ∙ ap (λ (x : ℕ). member i (words_from 6 (8 + x * 48) (policy_bytes default_policy))) (sym (place_no k lk))
         ∙ ap (λ (n : ℕ). member i (words_from n (8 + place_of (set_at k) * (n * 8)) (policy_bytes default_policy))) (sym six)
-        ∙ ap (member i) (default_set (set_at k)) ∙ sym (by_index Index.NoEntry q)
+        ∙ ap (member i) (default_set (set_at k)) ∙ sym (by_index None q)
 
 -- ---- a word, from its highest bit on
 
@@ -172,3 +171,8 @@ module _ (p : ℕ → Bool) (w : ℕ) where
   all_high m l b e =
       ap high e ∙ bits_same 64 (λ (i : ℕ). p (64 * w + 0 + i)) (λ (i : ℕ). p (64 * w + i)) (λ i. ap p (omega arith)) ∙ sym
       (word_at_lem m p w l)
+
+-- A test as a number.
+pub bit_number : (b : Bool) → (bool_byte b ≡ one_if b) × (bool_byte b ≤ 1)
+bit_number true = (refl, omega arith)
+bit_number false = (refl, omega arith)

@@ -1,20 +1,40 @@
 -- Carrying a policy over to our tables (document 02, xii): "Carry a policy over by character, to our tables' version". The old policy's
 -- bits are numbered by the old variation table, and the new policy's bits by ours. The whole outcome of the call is `carry_call`.
-use Rattle.std.specs.Prelude.{Bool, cond, not, ◌&&◌, ◌||◌, List, ◌∷◌, ℕ, ◌+◌, ◌*◌, ◌/◌, ◌%◌, eqb, leb, ltb, get_or, length}
-use Rattle.base.specs.Answers.{done}
-use Rattle.base.specs.Refusals.{After, RefusalRow, refusal_row, unwritten, written}
+use Rattle.base.specs.declared.Refusal.{Refusal}
+use Rattle.std.specs.Prelude.{
+  Bool,
+  cond,
+  not,
+  ◌&&◌,
+  ◌||◌,
+  List,
+  ◌∷◌,
+  ℕ,
+  ◌+◌,
+  ◌*◌,
+  ◌/◌,
+  ◌%◌,
+  eqb,
+  leb,
+  ltb,
+  get_or,
+  length,
+  Ok,
+  Err,
+  Some,
+  None,
+  Result,
+  Option,
+}
+use Rattle.base.specs.Refusals.{After, unwritten, written}
 use Rattle.base.specs.Words.{bytes_of}
 use Rattle.base.specs.declared.Refusal.TheVariants.{NotAPolicy, NotAnEntryList, OutputTooShort}
 use Rattle.emoji.specs.Tables.{ascending, index_of}
 use Rattle.emoji.specs.UnicodeData.{variation_entries}
-use Rattle.emoji.specs.declared.VariationSequenceIndex.{VariationSequenceIndex}
-use Rattle.emoji.specs.declared.VariationSequenceIndex.TheVariants as Index
 use Rattle.policy_key_set.specs.Sets.{all_below, entry_count, member, word_count, words_of}
 use Rattle.policy.specs.DefaultPolicy.{default_policy}
 use Rattle.policy.specs.PolicyBytes.{numbers_of, policy_bytes, policy_words, words_from}
 use Rattle.policy.specs.declared.Policy.{Policy}
-use Rattle.policy_migration.specs.declared.CarryAnswer.{CarryAnswer}
-use Rattle.policy_migration.specs.declared.CarryAnswer.TheVariants.{Refused, Written}
 
 -- ---- the four sets
 
@@ -68,9 +88,9 @@ is_old_policy old policy =
 
 -- The membership of an entry of ours, by its place in the old list: "an entry in both tables keeps its four memberships, .. and a new entry
 -- gets those of the default policy under the new tables".
-abbrev pub kept_or : VariationSequenceIndex → List ℕ → Bool → Bool
-kept_or (Index.At j) ws new = member j ws
-kept_or Index.NoEntry ws new = new
+abbrev pub kept_or : Option ℕ → List ℕ → Bool → Bool
+kept_or (Some j) ws new = member j ws
+kept_or None ws new = new
 
 -- Whether the carried set has entry i of ours. No other bit is 1, so "an entry gone is dropped".
 unfoldable pub carried_test : List ℕ → List ℕ → WhichSet → ℕ → Bool
@@ -99,16 +119,11 @@ carried old policy = record {
 unfoldable pub versioned : ℕ → Policy → List ℕ
 versioned version p = bytes_of (version ∷ policy_words p)
 
--- The row of the answer: done with the number of bytes written, or the refusal's row.
-unfoldable pub carry_row : CarryAnswer → RefusalRow
-carry_row (Written n) = done n
-carry_row (Refused r) = refusal_row r
-
 -- Carrying a policy over: refusals 16, 2 and 8, in this order. "15 isn't tested on it."
-unfoldable pub carry_call : List ℕ → List ℕ → List ℕ → After CarryAnswer ℕ
+unfoldable pub carry_call : List ℕ → List ℕ → List ℕ → After (Result ℕ Refusal) ℕ
 carry_call entries policy out =
     let result = policy_bytes (carried (numbers_of entries) policy) in
-    cond (not (is_entry_list entries policy)) (unwritten (Refused NotAnEntryList) out)
-    (cond (not (is_old_policy (numbers_of entries) policy)) (unwritten (Refused NotAPolicy) out)
-    (cond (leb (length result) (length out)) (written (Written (length result)) result out)
-    (unwritten (Refused (OutputTooShort (length result))) out)))
+    cond (not (is_entry_list entries policy)) (unwritten (Err NotAnEntryList) out)
+    (cond (not (is_old_policy (numbers_of entries) policy)) (unwritten (Err NotAPolicy) out)
+    (cond (leb (length result) (length out)) (written (Ok (length result)) result out)
+    (unwritten (Err (OutputTooShort (length result))) out)))

@@ -1,5 +1,5 @@
 -- Statements about carrying a policy over. The proofs are in proofs/Claims.antt.
-use Rattle.std.specs.Prelude.{◌≡◌, ◌↔◌, true, false, cond, List, ℕ, ◌*◌, ◌+◌, ◌%◌, ◌≤◌, ◌<◌, get_or, length}
+use Rattle.std.specs.Prelude.{◌≡◌, ◌↔◌, true, false, cond, List, ℕ, ◌*◌, ◌+◌, ◌%◌, ◌≤◌, ◌<◌, get_or, length, Ok, Err}
 use Rattle.base.specs.Refusals.{unwritten, written}
 use Rattle.base.specs.Words.{bytes_of}
 use Rattle.base.specs.declared.Refusal.TheVariants.{NotAPolicy, NotAnEntryList, OutputTooShort}
@@ -12,7 +12,6 @@ use Rattle.policy.specs.DefaultPolicy.{default_policy}
 use Rattle.policy.specs.PolicyBytes.{PolicyValue, is_policy, no_unused_bits, numbers_of, policy_bytes}
 use Rattle.policy.specs.declared.Policy.{Policy}
 use Rattle.policy_migration.specs.Carry.{WhichSet, carried, carry_call, is_entry_list, is_old_policy, old_set, set_in, versioned, words_for}
-use Rattle.policy_migration.specs.declared.CarryAnswer.TheVariants.{Refused, Written}
 
 -- "Carry a policy over by character": each character with an entry in our table, in each of the four sets. A character of the old list has
 -- the membership that the old policy has at its place there. Any other has the membership of the default policy.
@@ -36,7 +35,7 @@ CarriedHome =
     (p : Policy) → PolicyValue p → no_unused_bits p ≡ true → (version : ℕ)
     → (carried variation_entries (versioned version p) ≡ p)
     × ((out : List ℕ) → 200 ≤ length out
-    → carry_call (bytes_of variation_entries) (versioned version p) out ≡ written (Written 200) (policy_bytes p) out)
+    → carry_call (bytes_of variation_entries) (versioned version p) out ≡ written (Ok 200) (policy_bytes p) out)
 
 -- The numbers of the old list ascend strictly, and the old policy has as many words as the list wants.
 pub record EntryList (entries policy : List ℕ) : Type 0 where
@@ -63,10 +62,10 @@ TestsMean =
 unfoldable pub CarryInOrder : Type 0
 CarryInOrder =
     (entries policy out : List ℕ)
-    → (is_entry_list entries policy ≡ false → carry_call entries policy out ≡ unwritten (Refused NotAnEntryList) out)
+    → (is_entry_list entries policy ≡ false → carry_call entries policy out ≡ unwritten (Err NotAnEntryList) out)
     × (is_entry_list entries policy ≡ true → is_old_policy (numbers_of entries) policy ≡ false
-    → carry_call entries policy out ≡ unwritten (Refused NotAPolicy) out)
+    → carry_call entries policy out ≡ unwritten (Err NotAPolicy) out)
     × (is_entry_list entries policy ≡ true → is_old_policy (numbers_of entries) policy ≡ true → length out < 200
-    → carry_call entries policy out ≡ unwritten (Refused (OutputTooShort 200)) out)
+    → carry_call entries policy out ≡ unwritten (Err (OutputTooShort 200)) out)
     × (is_entry_list entries policy ≡ true → is_old_policy (numbers_of entries) policy ≡ true → 200 ≤ length out
-    → carry_call entries policy out ≡ written (Written 200) (policy_bytes (carried (numbers_of entries) policy)) out)
+    → carry_call entries policy out ≡ written (Ok 200) (policy_bytes (carried (numbers_of entries) policy)) out)

@@ -5,29 +5,20 @@
 
 ghost use Rattle.std.specs.Prelude.{◌≡◌, true, ◌||◌, not, ◌∷◌, ℕ, ◌+◌, ◌*◌, ◌/◌, ◌%◌, ◌≤◌, ◌<◌, ltb, get_or, length};
 ghost use Rattle.std.proofs.lemmas.List.Edits.{sets};
-ghost use Rattle.base.specs.Sums.{one_if};
-ghost use Rattle.base.specs.Answers.{EndsAs};
+ghost use Rattle.base.specs.Answers.{EndsAs, answer_row};
 ghost use Rattle.emoji.specs.Tables.{ascending, index_of};
 ghost use Rattle.emoji.specs.UnicodeData.{unicode_version};
 ghost use Rattle.policy_key_set.specs.Sets.{all_below, member};
 ghost use Rattle.policy.specs.DefaultPolicy.{default_policy};
 ghost use Rattle.policy.specs.PolicyBytes.{numbers_of, policy_bytes, policy_words, words_from};
-ghost use Rattle.policy_migration.specs.Carry.{carried, carried_set, carried_test, carry_call, carry_row};
+ghost use Rattle.policy_migration.specs.Carry.{carried, carried_set, carried_test, carry_call};
 ghost use Rattle.policy_migration.specs.Carry.{is_entry_list, is_old_policy};
 ghost use Rattle.policy_migration.specs.Helpers.{set_at};
 
 use base::{Refusal, WORD_BYTES};
 use emoji::unicode_data::UNICODE_VERSION;
-use emoji::{VariationEntry, VariationSequenceIndex};
 use policy::{POLICY_BYTES, Policy};
 use policy_key_set::named_sets::CHARSET_WORDS;
-
-// The answer to carrying a policy over: the number of bytes of a policy, or a refusal.
-#[derive(Clone, Copy)]
-pub enum CarryAnswer {
-    Written { len: usize },
-    Refused(Refusal),
-}
 
 // The number of words of a policy.
 const POLICY_WORDS: usize = 4 * CHARSET_WORDS + 1;
@@ -45,18 +36,17 @@ fn is_ascending(entries: &[u8]) -> bool
     ensures { result ≡ ascending (numbers_of entries.now) }
 {
     let count = entries.len() / 8;
-    let mut j = 1;
-    while j < count {
+    for j in 1..count {
         if number_at(entries, j) <= number_at(entries, j - 1) {
             return false;
         }
-        j += 1;
     }
     true
 }
 
-// Returns the place of a number in an ascending list.
-fn index_of(entries: &[u8], c: u64) -> VariationSequenceIndex
+// Returns the place of a number in an ascending list. The numbers stand in lent bytes (C interface), so there is no slice of numbers that
+// std could search.
+fn index_of(entries: &[u8], c: u64) -> Option<usize>
     requires { ascending (numbers_of entries.now) ≡ true }
     ensures { result ≡ index_of c (numbers_of entries.now) }
 {
@@ -66,7 +56,7 @@ fn index_of(entries: &[u8], c: u64) -> VariationSequenceIndex
         let mid = lo + (hi - lo) / 2;
         let n = number_at(entries, mid);
         if n == c {
-            return VariationSequenceIndex::At(mid);
+            return Some(mid);
         }
         if n < c {
             lo = mid + 1;
@@ -74,7 +64,7 @@ fn index_of(entries: &[u8], c: u64) -> VariationSequenceIndex
         }
         hi = mid;
     }
-    VariationSequenceIndex::NoEntry
+    None
 }
 
 // Tests a bit of words. The words start at an offset.
@@ -90,13 +80,10 @@ fn no_unused(policy: &[u8], at: usize, words: usize, count: usize) -> bool
     requires { at + words * 64 < 9223372036854775808 }
     ensures { result ≡ all_below (words * 64) (λ (i : ℕ). ltb i count || not (member i (words_from words at policy.now))) }
 {
-    let bits = words * 64;
-    let mut i = count;
-    while i < bits {
+    for i in count..words * 64 {
         if old_bit(policy, at, words, i) {
             return false;
         }
-        i += 1;
     }
     true
 }
@@ -105,7 +92,7 @@ fn no_unused(policy: &[u8], at: usize, words: usize, count: usize) -> bool
 fn put_default(out: &mut [u8; POLICY_BYTES])
     ensures { (length out.new ≡ 200) × (out.new ≡ policy_bytes default_policy) }
 {
-    policy::write_policy(Policy::default(), out);
+    let _ = policy::write_policy(Policy::default(), out);
 }
 
 // Tests whether the carried set at a place k has entry i of ours: as the old set has it, or else as the default policy's set has it.
@@ -115,22 +102,12 @@ fn carried_bit(entries: &[u8], policy: &[u8], default: &[u8], k: usize, i: usize
 {
     let words = (entries.len() / 8 + 63) / 64;
     match emoji::variation_entry(i) {
-        VariationEntry::NoEntry => false,
-        VariationEntry::Char(ch) => match index_of(entries, ch as u64) {
-            VariationSequenceIndex::At(j) => old_bit(policy, 8 + k * (words * 8), words, j),
-            VariationSequenceIndex::NoEntry => old_bit(default, 8 + k * 48, 6, i),
+        None => false,
+        Some(ch) => match index_of(entries, ch as u64) {
+            Some(j) => old_bit(policy, 8 + k * (words * 8), words, j),
+            None => old_bit(default, 8 + k * 48, 6, i),
         },
     }
-}
-
-// Returns a bit as a number.
-fn bit(x: bool) -> u64
-    ensures { (result ≡ one_if x) × (result ≤ 1) }
-{
-    if x {
-        return 1;
-    }
-    0
 }
 
 // Returns word w of the carried set at a place k, made from its highest bit down.
@@ -139,10 +116,8 @@ fn carried_word(entries: &[u8], policy: &[u8], default: &[u8], k: usize, w: usiz
     ensures { result ≡ get_or (carried_set (numbers_of entries.now) policy.now (set_at k)) w 0 }
 {
     let mut acc: u64 = 0;
-    let mut b = 64;
-    while 0 < b {
-        b -= 1;
-        acc = bit(carried_bit(entries, policy, default, k, 64 * w + b)) + 2 * acc;
+    for b in (0..64).rev() {
+        acc = u64::from(carried_bit(entries, policy, default, k, 64 * w + b)) + 2 * acc;
     }
     acc
 }
@@ -165,11 +140,9 @@ fn put_policy(entries: &[u8], policy: &[u8], default: &[u8], out: &mut [u8])
         ≡ sets out.old 0 (policy_bytes (carried (numbers_of entries.now) policy.now)) }
 {
     let mut at = 0;
-    let mut n = 0;
-    while n < POLICY_WORDS {
+    for n in 0..POLICY_WORDS {
         base::write_word(out, at, new_word(entries, policy, default, n));
         at += WORD_BYTES;
-        n += 1;
     }
 }
 
@@ -206,22 +179,22 @@ fn is_old_policy(entries: &[u8], policy: &[u8]) -> bool
 }
 
 // Carries a policy over to our tables: writes the new policy at the front of the output, or refuses.
-pub fn carry_policy(entries: &[u8], policy: &[u8], out: &mut [u8]) -> CarryAnswer
-    ensures { EndsAs carry_row (carry_call entries.now policy.now out.old) result out.new }
+pub fn carry_policy(entries: &[u8], policy: &[u8], out: &mut [u8]) -> Result<usize, Refusal>
+    ensures { EndsAs answer_row (carry_call entries.now policy.now out.old) result out.new }
 {
     if !is_old_list(entries, policy) {
-        return CarryAnswer::Refused(Refusal::NotAnEntryList);
+        return Err(Refusal::NotAnEntryList);
     }
     if !is_old_policy(entries, policy) {
-        return CarryAnswer::Refused(Refusal::NotAPolicy);
+        return Err(Refusal::NotAPolicy);
     }
     if out.len() < POLICY_BYTES {
-        return CarryAnswer::Refused(Refusal::OutputTooShort {
+        return Err(Refusal::OutputTooShort {
             wanted: POLICY_BYTES,
         });
     }
     let mut default = [0u8; POLICY_BYTES];
     put_default(&mut default);
     put_policy(entries, policy, &default, out);
-    CarryAnswer::Written { len: POLICY_BYTES }
+    Ok(POLICY_BYTES)
 }

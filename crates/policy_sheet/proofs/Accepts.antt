@@ -1,8 +1,8 @@
 -- The reader's automaton accepts what the grammar derives.
+use Rattle.std.specs.Prelude.{Some, None, Option}
 use mathlib.Core.Path.{◌≡◌, refl, ap, ap₂, sym, ◌∙◌, subst}
 use mathlib.Core.Bool.{Bool, true, false}
 use mathlib.Core.List.{List, [], ◌∷◌, ◌++◌, append_assoc, append-nil}
-use mathlib.Core.Option.{Option, none, some}
 use Prim.Native.Nat.{ℕ, zero, suc, ◌+◌, ◌≤◌, ◌<◌}
 use native.Mathlib.Omega.{arith}
 use lib.Dec.{eqb}
@@ -66,16 +66,16 @@ use Rattle.policy_sheet.proofs.ByteKinds.{comma_kind, dash_kind, digit-kind, new
 -- ---- runs of the automaton one after the other
 
 pub record Steps (at : ℕ) (r : State) (b : ℕ) (q : State) : Type 0 where
-  pub goes : transition at r b ≡ some q
+  pub goes : transition at r b ≡ Some q
 
 pub record Runs (at : ℕ) (r : State) (s : List ℕ) (q : State) : Type 0 where
   pub goes : run at r s ≡ reached q
 
-pub run_cons : (at : ℕ) (r q : State) (b : ℕ) (s : List ℕ) → transition at r b ≡ some q → run at r (b ∷ s) ≡ run (at + 1) q s
+pub run_cons : (at : ℕ) (r q : State) (b : ℕ) (s : List ℕ) → transition at r b ≡ Some q → run at r (b ∷ s) ≡ run (at + 1) q s
 unfolding run
 run_cons at r q b s e = ap (λ (o : Option State). onward o (stopped at r) (λ (q : State). run (at + 1) q s)) e
 
-pub run-stops : (at : ℕ) (r : State) (b : ℕ) (s : List ℕ) → transition at r b ≡ none → run at r (b ∷ s) ≡ stopped at r
+pub run-stops : (at : ℕ) (r : State) (b : ℕ) (s : List ℕ) → transition at r b ≡ None → run at r (b ∷ s) ≡ stopped at r
 unfolding run
 run-stops at r b s e = ap (λ (o : Option State). onward o (stopped at r) (λ (q : State). run (at + 1) q s)) e
 
@@ -94,8 +94,8 @@ run_then r q at (b ∷ s) t e = go (transition at r b) refl e (λ x f. run_then 
     go : (o : Option State) → transition at r b ≡ o → onward o (stopped at r) (λ (x : State). run (at + 1) x s) ≡ reached q
         → ((x : State) → run (at + 1) x s ≡ reached q → run (at + 1) x (s ++ t) ≡ run (at + 1 + length s) q t)
         → run at r (b ∷ (s ++ t)) ≡ run (at + length (b ∷ s)) q t
-    go none e f h = let z : ◌≡◌ {A = ℕ} 0 1 = cc in absurd (omega arith)
-    go (some x) e f h = run_cons at r x b (s ++ t) e ∙ h x f ∙ ap (λ (n : ℕ). run n q t) (omega arith)
+    go None e f h = let z : ◌≡◌ {A = ℕ} 0 1 = cc in absurd (omega arith)
+    go (Some x) e f h = run_cons at r x b (s ++ t) e ∙ h x f ∙ ap (λ (n : ℕ). run n q t) (omega arith)
 
 pub no_run : {at : ℕ} {r : State} → Runs at r [] r
 no_run {at} {r} = record { goes = run_nil at r }
@@ -179,7 +179,7 @@ unfolding transition_by
 close_step at r comma_closes l a = record { goes = transition_in at r 0x2C comma l comma_kind ∙ rw a }
 close_step at r newline_closes l a = record { goes = transition_in at r 0x0A newline l newline_kind ∙ rw a }
 
-pub dash_step : (at : ℕ) (r : State) → r.line < 4 → r.first ≡ none → allowed_digits r.count ≡ true
+pub dash_step : (at : ℕ) (r : State) → r.line < 4 → r.first ≡ None → allowed_digits r.count ≡ true
     → Steps at r 0x2D (after_dash r (at + 1))
 unfolding transition_by is_none
 dash_step at r l f a = record { goes = transition_in at r 0x2D dash l dash_kind ∙ rw (f, a) }

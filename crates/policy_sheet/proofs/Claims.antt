@@ -1,8 +1,8 @@
 -- The proof of each statement of specs/Theorems.antt.
+use Rattle.std.specs.Prelude.{Ok, Option, Some, None}
 use mathlib.Core.Path.{◌≡◌, refl, ap, sym, ◌∙◌, subst}
 use mathlib.Core.Bool.{true}
 use mathlib.Core.List.{List}
-use mathlib.Core.Option.{Option, none, some}
 use Prim.Native.Nat.{ℕ, ◌≤◌}
 use native.Mathlib.Omega.{arith}
 use lib.ListN.{length}
@@ -58,7 +58,6 @@ use Rattle.policy_sheet.specs.Theorems.{
   WrittenRuns,
 }
 use Rattle.policy_sheet.specs.Writer.{fewest_digits, first_in, joined, line_text, run_text, runs_from, with_entry, write_sheet}
-use Rattle.policy_sheet.specs.declared.SheetAnswer.TheVariants.{Written}
 use Rattle.policy_sheet.proofs.Lengths.{sheet_few}
 use Rattle.policy_sheet.proofs.Offsets.{fault_inside, non_entry_inside}
 use Rattle.policy_sheet.proofs.Outcomes.{
@@ -93,16 +92,16 @@ same_offset : {n m : ℕ} → not_a_sheet n ≡ not_a_sheet m → n ≡ m
 same_offset e = cc
 
 no_fault_read : (o : Option ℕ) (p : Policy) (n : ℕ) → non_entry_or o (is_read p) ≡ not_a_sheet n → ⊥
-no_fault_read none p n e = let z : ◌≡◌ {A = ℕ} 0 1 = cc in omega arith
-no_fault_read (some m) p n e = let z : ◌≡◌ {A = ℕ} 0 1 = cc in omega arith
+no_fault_read None p n e = let z : ◌≡◌ {A = ℕ} 0 1 = cc in omega arith
+no_fault_read (Some m) p n e = let z : ◌≡◌ {A = ℕ} 0 1 = cc in omega arith
 
-read_none : (o : Option ℕ) (p q : Policy) → non_entry_or o (is_read p) ≡ is_read q → (o ≡ none) × (p ≡ q)
-read_none none p q e = (refl, cc)
-read_none (some m) p q e = let z : ◌≡◌ {A = ℕ} 0 1 = cc in absurd (omega arith)
+read_none : (o : Option ℕ) (p q : Policy) → non_entry_or o (is_read p) ≡ is_read q → (o ≡ None) × (p ≡ q)
+read_none None p q e = (refl, cc)
+read_none (Some m) p q e = let z : ◌≡◌ {A = ℕ} 0 1 = cc in absurd (omega arith)
 
-other_as : (o : Option ℕ) (p : Policy) (n : ℕ) → non_entry_or o (is_read p) ≡ not_an_entry n → o ≡ some n
-other_as none p n e = let z : ◌≡◌ {A = ℕ} 0 1 = cc in absurd (omega arith)
-other_as (some m) p n e = cc
+other_as : (o : Option ℕ) (p : Policy) (n : ℕ) → non_entry_or o (is_read p) ≡ not_an_entry n → o ≡ Some n
+other_as None p n e = let z : ◌≡◌ {A = ℕ} 0 1 = cc in absurd (omega arith)
+other_as (Some m) p n e = cc
 
 -- ---- refusal 11
 
@@ -201,13 +200,13 @@ every_write_call policy out = record {
     S = write_sheet (policy_of policy)
 
     back_to : all_bytes policy ≡ true → is_policy policy ≡ true → (o : List ℕ) → 200 ≤ length o
-        → read_call S o ≡ written (Written 200) policy o
+        → read_call S o ≡ written (Ok 200) policy o
     back_to b e o l =
         let v = value_of_bytes policy b in
         let n = policy_parts policy e in
         read_as S o (is_read (policy_of policy)) (omega (arith, sheet_few (policy_of policy))) (reads_back (policy_of policy) v n.2)
         ∙ result-done 200 (policy_bytes (policy_of policy)) o (policy_bytes-many (policy_of policy) v) l
-        ∙ ap (λ (r : List ℕ). written (Written 200) r o) (write_read policy b n.0 n.1)
+        ∙ ap (λ (r : List ℕ). written (Ok 200) r o) (write_read policy b n.0 n.1)
 
 -- ---- the form of a written sheet
 

@@ -1,9 +1,9 @@
 -- The grammar derives the bytes that the automaton has accepted, as far as they go.
+use Rattle.std.specs.Prelude.{Some, None, Option}
 use mathlib.Core.Path.{◌≡◌, refl, ap, sym, ◌∙◌, subst}
 use mathlib.Core.Logic.{◌⊎◌, inl, inr, ⊎_elim}
 use mathlib.Core.Bool.{Bool, true, false, cond, ◌&&◌, true≢false}
 use mathlib.Core.List.{List, [], ◌∷◌, ◌++◌, append_assoc, append-nil}
-use mathlib.Core.Option.{Option, none, some}
 use Prim.Native.Nat.{ℕ, suc, ◌+◌, ◌*◌, ◌≤◌, ◌<◌}
 use native.Mathlib.Omega.{arith}
 use lib.Dec.{ltb}
@@ -58,9 +58,9 @@ use Rattle.policy_sheet.proofs.ByteKinds.{HasKind, is_comma, is_dash, is_digit, 
 
 -- The piece that is not closed yet: digits, or a code point, a dash and digits.
 pub data Number (at : ℕ) : List ℕ → Option Point → ℕ → ℕ → ℕ → Type 0 where
-  alone : {s : List ℕ} {k v : ℕ} → Digits s k v → Number at s none at k v
+  alone : {s : List ℕ} {k v : ℕ} → Digits s k v → Number at s None at k v
   in_range : {s t : List ℕ} {w k v : ℕ} → CodePoint s w → Digits t k v
-      → Number at (s ++ (0x2D ∷ t)) (some (record { at = at; value = w })) (at + length s + 1) k v
+      → Number at (s ++ (0x2D ∷ t)) (Some (record { at = at; value = w })) (at + length s + 1) k v
 
 -- If nothing of a line was read, the bytes end with the line before it.
 pub data Fresh : Bool → List ℕ → List ℕ → List Piece → Type 0 where
@@ -107,7 +107,7 @@ more-number : {at : ℕ} {s : List ℕ} {f : Option Point} {n k v b d : ℕ} →
     → Number at (s ++ (b ∷ [])) f n (suc k) (v * 16 + d)
 more-number (alone ds) h = alone (digits_and ds h)
 more-number {at} {b = b} {d} (in_range {s} {t} {w} {k} {v} p ds) h =
-    subst (λ (l : List ℕ). Number at l (some (record { at = at; value = w })) (at + length s + 1) (suc k) (v * 16 + d))
+    subst (λ (l : List ℕ). Number at l (Some (record { at = at; value = w })) (at + length s + 1) (suc k) (v * 16 + d))
     (sym (append_assoc s (0x2D ∷ t) (b ∷ [])))
     (in_range p (digits_and ds h))
 
@@ -127,10 +127,10 @@ pieces-held {k} {at} {w = w} {x = x} (after_comma {s} {xs = ys} h) p =
     (pieces_and h (subst (λ (n : ℕ). PieceAt k n w x) (simp length-append (omega arith)) p))
 
 -- The same before a dash.
-dashed : {at : ℕ} {s : List ℕ} {f : Option Point} {n k v m : ℕ} → Number at s f n k v → f ≡ none → allowed_digits k ≡ true
+dashed : {at : ℕ} {s : List ℕ} {f : Option Point} {n k v m : ℕ} → Number at s f n k v → f ≡ None → allowed_digits k ≡ true
     → at + length s + 1 ≡ m
-    → Number at (s ++ (0x2D ∷ [])) (some (record { at = n; value = v })) m 0 0
-dashed {at} {s} {v = v} (alone ds) e a q = subst (λ (k : ℕ). Number at (s ++ (0x2D ∷ [])) (some (record { at = at; value = v })) k 0 0) q
+    → Number at (s ++ (0x2D ∷ [])) (Some (record { at = n; value = v })) m 0 0
+dashed {at} {s} {v = v} (alone ds) e a q = subst (λ (k : ℕ). Number at (s ++ (0x2D ∷ [])) (Some (record { at = at; value = v })) k 0 0) q
     (in_range (of_digits ds a) no_digits)
 dashed (in_range p ds) e a q = let z : ◌≡◌ {A = ℕ} 0 1 = cc in absurd (omega arith)
 
@@ -156,7 +156,7 @@ module _ (s : List ℕ) (r : State) (h : Held s r) (l : r.line < 4) where
     in_sheet = inl l;
   }
 
-  held_dash : allowed_digits r.count ≡ true → r.first ≡ none → Held (s ++ (0x2D ∷ [])) (after_dash r (length s + 1))
+  held_dash : allowed_digits r.count ≡ true → r.first ≡ None → Held (s ++ (0x2D ∷ [])) (after_dash r (length s + 1))
   held_dash a f = record {
     earlier = h.earlier;
     front_text = h.front_text;
@@ -195,7 +195,7 @@ module _ (s : List ℕ) (r : State) (h : Held s r) (l : r.line < 4) where
     begun = false;
     lines_before = h.lines_before;
     front = after_comma (all_pieces a);
-    number = subst (λ (k : ℕ). Number (length h.earlier + length ((h.front_text ++ h.number_text) ++ (0x2C ∷ []))) [] none k 0 0)
+    number = subst (λ (k : ℕ). Number (length h.earlier + length ((h.front_text ++ h.number_text) ++ (0x2C ∷ []))) [] None k 0 0)
         at_is (alone no_digits);
     fresh = not_fresh;
     text = ap (λ (t : List ℕ). t ++ (0x2C ∷ [])) h.text ∙ simp (append_assoc, append-nil);
@@ -219,7 +219,7 @@ module _ (s : List ℕ) (r : State) (h : Held s r) (l : r.line < 4) where
     begun = true;
     lines_before = g;
     front = line_start;
-    number = subst (λ (k : ℕ). Number (length t + 0) [] none k 0 0) at_is (alone no_digits);
+    number = subst (λ (k : ℕ). Number (length t + 0) [] None k 0 0) at_is (alone no_digits);
     fresh = nothing_read;
     text = sym e ∙ sym (append-nil t);
     pieces = p ∙ sym (append-nil xs);
@@ -263,20 +263,20 @@ pub record Stepped (s : List ℕ) (r : State) (b : ℕ) (q : State) : Type 0 whe
   pub adds : Adds r b q
 
 abbrev when : Bool → State → Option State → Option State
-when t x y = cond t (some x) y
+when t x y = cond t (Some x) y
 
-taken : {x q : State} (t : Bool) → when t x none ≡ some q → (t ≡ true) × (x ≡ q)
+taken : {x q : State} (t : Bool) → when t x None ≡ Some q → (t ≡ true) × (x ≡ q)
 taken true e = (refl, cc)
 taken false e = let z : ◌≡◌ {A = ℕ} 0 1 = cc in absurd (omega arith)
 
-taken-either : {x y q : State} (t u : Bool) → when t x (when u y none) ≡ some q → ((t ≡ true) × (x ≡ q)) ⊎ ((u ≡ true) × (y ≡ q))
+taken-either : {x y q : State} (t u : Bool) → when t x (when u y None) ≡ Some q → ((t ≡ true) × (x ≡ q)) ⊎ ((u ≡ true) × (y ≡ q))
 taken-either true u e = inl (refl, cc)
 taken-either false u e = inr (taken u e)
 
-is_none_lem : (o : Option Point) → is_none o ≡ true → o ≡ none
+is_none_lem : (o : Option Point) → is_none o ≡ true → o ≡ None
 unfolding is_none
-is_none_lem none e = refl
-is_none_lem (some x) e = absurd (true≢false (sym e))
+is_none_lem None e = refl
+is_none_lem (Some x) e = absurd (true≢false (sym e))
 
 module _ (s : List ℕ) (r : State) (h : Held s r) (l : r.line < 4) where
   stepped_as : {b : ℕ} {x q : State} → x ≡ q → Held (s ++ (b ∷ [])) x → Adds r b x → Stepped s r b q
@@ -286,7 +286,7 @@ module _ (s : List ℕ) (r : State) (h : Held s r) (l : r.line < 4) where
     adds = subst (λ (z : State). Adds r b z) e a;
   }
 
-  by_kind : {b : ℕ} {k : ByteKind} {q : State} → HasKind b k → transition_by (length s) r k ≡ some q → Stepped s r b q
+  by_kind : {b : ℕ} {k : ByteKind} {q : State} → HasKind b k → transition_by (length s) r k ≡ Some q → Stepped s r b q
   unfolding transition_by
   by_kind (is_digit x) e =
       let t = taken (ltb r.count 6) e in
@@ -303,10 +303,10 @@ module _ (s : List ℕ) (r : State) (h : Held s r) (l : r.line < 4) where
       (λ t. stepped_as t.1 (held-empty s r h l t.0) (same_pieces refl)) (taken-either (allowed_digits r.count) r.fresh e)
   by_kind is_other e = let z : ◌≡◌ {A = ℕ} 0 1 = cc in absurd (omega arith)
 
-pub stepped : {s : List ℕ} {r : State} (b : ℕ) (q : State) → Held s r → transition (length s) r b ≡ some q → Stepped s r b q
+pub stepped : {s : List ℕ} {r : State} (b : ℕ) (q : State) → Held s r → transition (length s) r b ≡ Some q → Stepped s r b q
 unfolding transition
 stepped {s} {r} b q h e = go (ltb r.line 4) refl e
   where
-    go : (t : Bool) → ltb r.line 4 ≡ t → cond t (transition_by (length s) r (kind_of b)) none ≡ some q → Stepped s r b q
+    go : (t : Bool) → ltb r.line 4 ≡ t → cond t (transition_by (length s) r (kind_of b)) None ≡ Some q → Stepped s r b q
     go true p e = by_kind s r h (ltb-true r.line 4 p) (kind b) e
     go false p e = let z : ◌≡◌ {A = ℕ} 0 1 = cc in absurd (omega arith)

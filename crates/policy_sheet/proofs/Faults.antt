@@ -1,9 +1,9 @@
 -- Refusal 11: the result is the first fault. Without a fault the bytes are a sheet in which no range runs down.
+use Rattle.std.specs.Prelude.{Some, None, Option}
 use mathlib.Core.Path.{◌≡◌, refl, ap, sym, ◌∙◌, subst}
 use mathlib.Core.Logic.{◌⊎◌, inl, inr, ⊎_elim}
 use mathlib.Core.Bool.{Bool, true, false, cond}
 use mathlib.Core.List.{List, [], ◌∷◌, ◌++◌, append_assoc, append-nil}
-use mathlib.Core.Option.{Option, none, some}
 use Prim.Native.Nat.{ℕ, suc, ◌+◌, ◌≤◌, ◌<◌}
 use native.Mathlib.Numerals.{add-one}
 use native.Mathlib.Omega.{arith}
@@ -71,12 +71,12 @@ only-pieces s xs ys h g = ap (λ (r : State). r.pieces) (same-reached (sym (shee
 
 -- ---- bytes with which no sheet begins
 
-no_sheet : {a : List ℕ} {r : State} (b : ℕ) → Going a r → transition (length a) r b ≡ none → Begins (a ++ (b ∷ [])) → ⊥
+no_sheet : {a : List ℕ} {r : State} (b : ℕ) → Going a r → transition (length a) r b ≡ None → Begins (a ++ (b ∷ [])) → ⊥
 no_sheet {a} {r} b g e h =
     let x = (sheet_run h.1.1).goes in
     let y = run_then r r 0 a [] in
     let z : run 0 start (a ++ (b ∷ h.0)) ≡ stopped (0 + length a) r
-    = run_then start r 0 a (b ∷ h.0) g.runs.goes ∙ run-stops (0 + length a) r b h.0 (subst (λ (n : ℕ). transition n r b ≡ none)
+    = run_then start r 0 a (b ∷ h.0) g.runs.goes ∙ run-stops (0 + length a) r b h.0 (subst (λ (n : ℕ). transition n r b ≡ None)
     (omega arith) e) in
     differ (sym x ∙ ap (run 0 start) (append_assoc a (b ∷ []) h.0) ∙ z)
   where
@@ -102,23 +102,23 @@ wrong_late k m s h f =
 -- ---- ranges that run down
 
 -- More bytes do not change which range is the first that runs down.
-down_stays : (n : ℕ) (t s : List ℕ) (r : State) → Going s r → first_descending r.pieces ≡ some n
-    → first_descending (pieces_of (run (length s) r t)) ≡ some n
+down_stays : (n : ℕ) (t s : List ℕ) (r : State) → Going s r → first_descending r.pieces ≡ Some n
+    → first_descending (pieces_of (run (length s) r t)) ≡ Some n
 unfolding run pieces_of
 down_stays n [] s r g e = e
 down_stays n (b ∷ t) s r g e = go (transition (length s) r b) refl (λ q h. down_stays n t (s ++ (b ∷ [])) q h)
   where
-    kept : {q : State} → Adds r b q → first_descending q.pieces ≡ some n
+    kept : {q : State} → Adds r b q → first_descending q.pieces ≡ Some n
     kept (same_pieces p) = ap first_descending p ∙ e
     kept (adds_piece c a p) = ap first_descending p ∙ down_more n r.pieces (piece_read r ∷ []) e
 
     go : (o : Option State) → transition (length s) r b ≡ o
-        → ((q : State) → Going (s ++ (b ∷ [])) q → first_descending q.pieces ≡ some n
-        → first_descending (pieces_of (run (length (s ++ (b ∷ []))) q t)) ≡ some n)
-        → first_descending (pieces_of (onward o (stopped (length s) r) (λ (q : State). run (length s + 1) q t))) ≡ some n
-    go none p f = e
-    go (some q) p f =
-        subst (λ (k : ℕ). first_descending (pieces_of (run k q t)) ≡ some n) (simp length-append (omega arith))
+        → ((q : State) → Going (s ++ (b ∷ [])) q → first_descending q.pieces ≡ Some n
+        → first_descending (pieces_of (run (length (s ++ (b ∷ []))) q t)) ≡ Some n)
+        → first_descending (pieces_of (onward o (stopped (length s) r) (λ (q : State). run (length s + 1) q t))) ≡ Some n
+    go None p f = e
+    go (Some q) p f =
+        subst (λ (k : ℕ). first_descending (pieces_of (run k q t)) ≡ Some n) (simp length-append (omega arith))
         (f q (going_step b q g p) (kept (stepped b q g.held p).adds))
 
 piece_starts : {k at : ℕ} {u : List ℕ} {x : Piece} → PieceAt k at u x → x.first.at ≡ at
@@ -136,7 +136,7 @@ down_before {s} {n} d = omega (arith, simp length-append at (ap length d.text), 
 -- If a range runs down, the first one that the automaton has read starts there or before.
 pub record DownRead (s : List ℕ) (m : ℕ) : Type 0 where
   pub offset : ℕ
-  pub first : first_descending (pieces_of (run 0 start s)) ≡ some offset
+  pub first : first_descending (pieces_of (run 0 start s)) ≡ Some offset
   pub before : offset ≤ m
 
 pub down_read : {s : List ℕ} {m : ℕ} → DescendingRange s m → DownRead s m
@@ -167,14 +167,14 @@ down_read {s} {m} d = go (first_descending (zs)) refl
         ap (run 0 start) (d.text ∙ simp append_assoc) ∙ run_then start end 0 text d.later to_end.goes
         ∙ ap (λ (n : ℕ). run n end d.later) (omega arith)
 
-    from_end : (n : ℕ) → first_descending (zs ++ (d.piece ∷ [])) ≡ some n → first_descending (pieces_of (run 0 start s)) ≡ some n
+    from_end : (n : ℕ) → first_descending (zs ++ (d.piece ∷ [])) ≡ Some n → first_descending (pieces_of (run 0 start s)) ≡ Some n
     from_end n e =
         ap (λ (x : RunResult). first_descending (pieces_of x)) after
         ∙ down_stays n d.later text end (reached_going end to_end.goes (run_ends text))
         (ap first_descending (closed-pieces d.closed d.line (zs ++ (d.piece ∷ [])) _) ∙ e)
 
     go : (o : Option ℕ) → first_descending zs ≡ o → DownRead s m
-    go (some n) e =
+    go (Some n) e =
         let g = reached_going (before_piece d.line d.fresh zs at) to_front.goes (run_ends (d.earlier ++ d.front_text)) in
         let l = down_before (g.found n e) in
         record {
@@ -182,7 +182,7 @@ down_read {s} {m} d = go (first_descending (zs)) refl
           first = from_end n (down_more n zs (d.piece ∷ []) e);
           before = omega (arith, length-append d.earlier d.front_text, piece_starts d.here, d.starts);
         }
-    go none e = record {
+    go None e = record {
       offset = d.piece.first.at;
       first = from_end d.piece.first.at (down_last zs (d.piece ∷ []) e ∙ one_down d.piece d.descends);
       before = omega (arith, d.starts);
@@ -192,7 +192,7 @@ down_read {s} {m} d = go (first_descending (zs)) refl
 
 pub data Verdict (s : List ℕ) : SheetReading → Type 0 where
   faulty : {n : ℕ} → Fault s n → ((m : ℕ) → Fault s m → n ≤ m) → Verdict s (not_a_sheet n)
-  formed : {xs : List Piece} → Sheet s xs → first_descending xs ≡ none → ((m : ℕ) → Fault s m → ⊥) → Verdict s (read_pieces xs)
+  formed : {xs : List Piece} → Sheet s xs → first_descending xs ≡ None → ((m : ℕ) → Fault s m → ⊥) → Verdict s (read_pieces xs)
 
 -- If some sheet begins with the first k bytes, a fault is at k or later, or it is a range that runs down.
 late : {s : List ℕ} {m : ℕ} (k : ℕ) → k ≤ length s → Begins (take k s) → Fault s m → (k ≤ m) ⊎ DownRead s m
@@ -200,15 +200,15 @@ late {s} {m} k l h (wrong_byte p q f) = inl (wrong_late k m s h f)
 late k l h (breaks_off p f) = inl l
 late k l h (descending_range d) = inr (down_read d)
 
-first_of : {n m : ℕ} {o : Option ℕ} → o ≡ some n → o ≡ some m → n ≡ m
+first_of : {n m : ℕ} {o : Option ℕ} → o ≡ Some n → o ≡ Some m → n ≡ m
 first_of e f = cc
 
-none-some : {m : ℕ} {o : Option ℕ} → o ≡ none → o ≡ some m → ⊥
+none-some : {m : ℕ} {o : Option ℕ} → o ≡ None → o ≡ Some m → ⊥
 none-some e f = let z : ◌≡◌ {A = ℕ} 0 1 = cc in omega arith
 
 module _ (s : List ℕ) (ran : RunResult) (same : run 0 start s ≡ ran) where
   -- A range ran down before the run ended.
-  went_down : (n k : ℕ) → k ≤ length s → Begins (take k s) → n < k → DescendingRange s n → first_descending (pieces_of ran) ≡ some n
+  went_down : (n k : ℕ) → k ≤ length s → Begins (take k s) → n < k → DescendingRange s n → first_descending (pieces_of ran) ≡ Some n
       → Verdict s (not_a_sheet n)
   went_down n k l h b d e =
       faulty (descending_range d)
@@ -216,13 +216,13 @@ module _ (s : List ℕ) (ran : RunResult) (same : run 0 start s ≡ ran) where
       ∙ e) p.first in omega arith) (late k l h f))
 
   -- None did, and the run ended at a fault.
-  no_down : (n : ℕ) → n ≤ length s → Begins (take n s) → Fault s n → first_descending (pieces_of ran) ≡ none → Verdict s (not_a_sheet n)
+  no_down : (n : ℕ) → n ≤ length s → Begins (take n s) → Fault s n → first_descending (pieces_of ran) ≡ None → Verdict s (not_a_sheet n)
   no_down n l h d e =
       faulty d (λ m f. ⊎_elim (λ p. p) (λ p. absurd (none-some (ap (λ (x : RunResult). first_descending (pieces_of x)) same
       ∙ e) p.first)) (late n l h f))
 
   -- None did, and it is a sheet.
-  no_fault : (xs : List Piece) → Sheet s xs → first_descending (pieces_of ran) ≡ none → first_descending xs ≡ none
+  no_fault : (xs : List Piece) → Sheet s xs → first_descending (pieces_of ran) ≡ None → first_descending xs ≡ None
       → Verdict s (read_pieces xs)
   no_fault xs g e p = formed g p (λ m f. go f)
     where
@@ -254,9 +254,9 @@ verdict-ended s ran same (stops {a} {r} b c g t e) = go (first_descending r.piec
     down-in {n} d = subst (λ (l : List ℕ). DescendingRange l n) (sym t) (Rattle.policy_sheet.proofs.Runs.widened (b ∷ c) d)
 
     go : (o : Option ℕ) → first_descending r.pieces ≡ o → Verdict s (descending_or o (not_a_sheet (length a)))
-    go (some n) p = went_down s (stopped (length a) r) same n (length a) (omega (arith, in-s)) begins (down_before (g.found n p))
+    go (Some n) p = went_down s (stopped (length a) r) same n (length a) (omega (arith, in-s)) begins (down_before (g.found n p))
         (down-in (g.found n p)) p
-    go none p =
+    go None p =
         no_down s (stopped (length a) r) same (length a) (omega (arith, in-s)) begins
         (wrong_byte in-s begins (λ h. no_sheet b g e (subst Begins one_more h))) p
 verdict-ended s ran same (all_read {r} g) = go (first_descending r.pieces) refl
@@ -264,7 +264,7 @@ verdict-ended s ran same (all_read {r} g) = go (first_descending r.pieces) refl
     begins : Begins (take (length s) s)
     begins = subst Begins (sym (take-length s)) (going_begins g)
 
-    at_end : (t : Bool) → eqb r.line 4 ≡ t → first_descending r.pieces ≡ none
+    at_end : (t : Bool) → eqb r.line 4 ≡ t → first_descending r.pieces ≡ None
         → Verdict s (cond t (read_pieces r.pieces) (not_a_sheet (length s)))
     at_end true e p = no_fault s (reached r) same r.pieces (sheet_held g.held (eqb-true r.line 4 e)) p p
     at_end false e p =
@@ -274,14 +274,14 @@ verdict-ended s ran same (all_read {r} g) = go (first_descending r.pieces) refl
 
     go : (o : Option ℕ) → first_descending r.pieces ≡ o
         → Verdict s (descending_or o (cond (eqb r.line 4) (read_pieces r.pieces) (not_a_sheet (length s))))
-    go (some n) p = went_down s (reached r) same n (length s) (omega arith) begins (down_before (g.found n p)) (g.found n p) p
-    go none p = at_end (eqb r.line 4) refl p
+    go (Some n) p = went_down s (reached r) same n (length s) (omega arith) begins (down_before (g.found n p)) (g.found n p) p
+    go None p = at_end (eqb r.line 4) refl p
 
 pub verdict : (s : List ℕ) → Verdict s (read_sheet s)
 unfolding read_sheet
 verdict s = verdict-ended s (run 0 start s) refl (run_ends s)
 
 -- A sheet in which no range runs down is read by its pieces.
-pub read_rising : {s : List ℕ} {xs : List Piece} → Sheet s xs → first_descending xs ≡ none → read_sheet s ≡ read_pieces xs
+pub read_rising : {s : List ℕ} {xs : List Piece} → Sheet s xs → first_descending xs ≡ None → read_sheet s ≡ read_pieces xs
 unfolding read_sheet answer_of
 read_rising {s} {xs} h e = ap (answer_of (length s)) (sheet_run h).goes ∙ rw e

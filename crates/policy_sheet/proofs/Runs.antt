@@ -1,8 +1,8 @@
 -- A run of the automaton from the start: its state, where it stops, and which ranges run down on the way.
+use Rattle.std.specs.Prelude.{Some, None, Option}
 use mathlib.Core.Path.{◌≡◌, refl, ap, sym, ◌∙◌, subst}
 use mathlib.Core.Bool.{Bool, true, false, cond}
 use mathlib.Core.List.{List, [], ◌∷◌, ◌++◌, append_assoc, append-nil}
-use mathlib.Core.Option.{Option, none, some}
 use Prim.Native.Nat.{ℕ, ◌+◌, ◌<◌}
 use native.Mathlib.Omega.{arith}
 use lib.Dec.{ltb}
@@ -26,38 +26,38 @@ use Rattle.policy_sheet.proofs.Derives.{Adds, Held, adds_piece, held_start, piec
 
 -- ---- ranges that run down
 
-pub down_more : (n : ℕ) (xs ys : List Piece) → first_descending xs ≡ some n → first_descending (xs ++ ys) ≡ some n
+pub down_more : (n : ℕ) (xs ys : List Piece) → first_descending xs ≡ Some n → first_descending (xs ++ ys) ≡ Some n
 unfolding first_descending
 down_more n [] ys e = let z : ◌≡◌ {A = ℕ} 0 1 = cc in absurd (omega arith)
 down_more n (x ∷ xs) ys e = go (ltb x.last.value x.first.value) refl e (down_more n xs ys)
   where
-    go : (t : Bool) → ltb x.last.value x.first.value ≡ t → cond t (some x.first.at) (first_descending xs) ≡ some n
-        → (first_descending xs ≡ some n → first_descending (xs ++ ys) ≡ some n)
-        → cond t (some x.first.at) (first_descending (xs ++ ys)) ≡ some n
+    go : (t : Bool) → ltb x.last.value x.first.value ≡ t → cond t (Some x.first.at) (first_descending xs) ≡ Some n
+        → (first_descending xs ≡ Some n → first_descending (xs ++ ys) ≡ Some n)
+        → cond t (Some x.first.at) (first_descending (xs ++ ys)) ≡ Some n
     go true p e h = e
     go false p e h = h e
 
-pub down_last : (xs ys : List Piece) → first_descending xs ≡ none → first_descending (xs ++ ys) ≡ first_descending ys
+pub down_last : (xs ys : List Piece) → first_descending xs ≡ None → first_descending (xs ++ ys) ≡ first_descending ys
 unfolding first_descending
 down_last [] ys e = refl
 down_last (x ∷ xs) ys e = go (ltb x.last.value x.first.value) refl e (down_last xs ys)
   where
-    go : (t : Bool) → ltb x.last.value x.first.value ≡ t → cond t (some x.first.at) (first_descending xs) ≡ none
-        → (first_descending xs ≡ none → first_descending (xs ++ ys) ≡ first_descending ys)
-        → cond t (some x.first.at) (first_descending (xs ++ ys)) ≡ first_descending ys
+    go : (t : Bool) → ltb x.last.value x.first.value ≡ t → cond t (Some x.first.at) (first_descending xs) ≡ None
+        → (first_descending xs ≡ None → first_descending (xs ++ ys) ≡ first_descending ys)
+        → cond t (Some x.first.at) (first_descending (xs ++ ys)) ≡ first_descending ys
     go true p e h = let z : ◌≡◌ {A = ℕ} 0 1 = cc in absurd (omega arith)
     go false p e h = h e
 
-pub down_one : (x : Piece) (n : ℕ) → first_descending (x ∷ []) ≡ some n → (x.last.value < x.first.value) × (x.first.at ≡ n)
+pub down_one : (x : Piece) (n : ℕ) → first_descending (x ∷ []) ≡ Some n → (x.last.value < x.first.value) × (x.first.at ≡ n)
 unfolding first_descending
 down_one x n e = go (ltb x.last.value x.first.value) refl e
   where
-    go : (t : Bool) → ltb x.last.value x.first.value ≡ t → cond t (some x.first.at) none ≡ some n
+    go : (t : Bool) → ltb x.last.value x.first.value ≡ t → cond t (Some x.first.at) None ≡ Some n
         → (x.last.value < x.first.value) × (x.first.at ≡ n)
     go true p e = (ltb-true _ _ p, cc)
     go false p e = let z : ◌≡◌ {A = ℕ} 0 1 = cc in absurd (omega arith)
 
-pub one_down : (x : Piece) → x.last.value < x.first.value → first_descending (x ∷ []) ≡ some x.first.at
+pub one_down : (x : Piece) → x.last.value < x.first.value → first_descending (x ∷ []) ≡ Some x.first.at
 unfolding first_descending
 one_down x h = rw (lt-ltb x.last.value x.first.value h)
 
@@ -88,23 +88,23 @@ widened {s} {n} t d = record {
 pub record Going (s : List ℕ) (r : State) : Type 0 where
   pub held : Held s r
   pub runs : Runs 0 start s r
-  pub found : (n : ℕ) → first_descending r.pieces ≡ some n → DescendingRange s n
+  pub found : (n : ℕ) → first_descending r.pieces ≡ Some n → DescendingRange s n
 
 pub going_start : Going [] start
 unfolding first_descending
 going_start = record { held = held_start; runs = no_run; found = λ n e. let z : ◌≡◌ {A = ℕ} 0 1 = cc in absurd (omega arith) }
 
 found-more : {s : List ℕ} {r : State} {b : ℕ} {q : State} → Going s r → r.line < 4 → Adds r b q → (n : ℕ)
-    → first_descending q.pieces ≡ some n
+    → first_descending q.pieces ≡ Some n
     → DescendingRange (s ++ (b ∷ [])) n
 found-more {s} {r} {b} {q} g l (same_pieces e) n f = widened (b ∷ []) (g.found n (ap first_descending (sym e) ∙ f))
 found-more {s} {r} {b} {q} g l (adds_piece c a e) n f = go (first_descending r.pieces) refl
   where
     go : (o : Option ℕ) → first_descending r.pieces ≡ o → DescendingRange (s ++ (b ∷ [])) n
-    go (some m) p =
+    go (Some m) p =
         let y = down_more m r.pieces (piece_read r ∷ []) p in
         widened (b ∷ []) (g.found n (p ∙ cc))
-    go none p =
+    go None p =
         let h = g.held in
         let y = down_one (piece_read r) n (sym (down_last r.pieces (piece_read r ∷ []) p) ∙ ap first_descending (sym e) ∙ f) in
         record {
@@ -128,19 +128,19 @@ found-more {s} {r} {b} {q} g l (adds_piece c a e) n f = go (first_descending r.p
           starts = y.1;
         }
 
-pub going_step : {s : List ℕ} {r : State} (b : ℕ) (q : State) → Going s r → transition (length s) r b ≡ some q → Going (s ++ (b ∷ [])) q
+pub going_step : {s : List ℕ} {r : State} (b : ℕ) (q : State) → Going s r → transition (length s) r b ≡ Some q → Going (s ++ (b ∷ [])) q
 going_step {s} {r} b q g e =
     let t = stepped b q g.held e in
     record {
       held = t.held;
-      runs = runs_snoc g.runs (record { goes = subst (λ (n : ℕ). transition n r b ≡ some q) (omega arith) e });
+      runs = runs_snoc g.runs (record { goes = subst (λ (n : ℕ). transition n r b ≡ Some q) (omega arith) e });
       found = found-more g t.line t.adds;
     }
 
 -- How a run ends.
 pub data Ended (s : List ℕ) : RunResult → Type 0 where
   all_read : {r : State} → Going s r → Ended s (reached r)
-  stops : {a : List ℕ} {r : State} (b : ℕ) (c : List ℕ) → Going a r → s ≡ a ++ (b ∷ c) → transition (length a) r b ≡ none
+  stops : {a : List ℕ} {r : State} (b : ℕ) (c : List ℕ) → Going a r → s ≡ a ++ (b ∷ c) → transition (length a) r b ≡ None
       → Ended s (stopped (length a) r)
 
 pub ended : (t s : List ℕ) (r : State) → Going s r → Ended (s ++ t) (run (length s) r t)
@@ -151,8 +151,8 @@ ended (b ∷ t) s r g = go (transition (length s) r b) refl (λ q h. ended t (s 
     go : (o : Option State) → transition (length s) r b ≡ o
         → ((q : State) → Going (s ++ (b ∷ [])) q → Ended ((s ++ (b ∷ [])) ++ t) (run (length (s ++ (b ∷ []))) q t))
         → Ended (s ++ (b ∷ t)) (onward o (stopped (length s) r) (λ (q : State). run (length s + 1) q t))
-    go none e f = stops b t g refl e
-    go (some q) e f =
+    go None e f = stops b t g refl e
+    go (Some q) e f =
         subst (λ (n : ℕ). Ended (s ++ (b ∷ t)) (run n q t)) (simp length-append (omega arith))
         (subst (λ (l : List ℕ). Ended l (run (length (s ++ (b ∷ []))) q t)) (append_assoc s (b ∷ []) t) (f q (going_step b q g e)))
 

@@ -1,7 +1,27 @@
 -- The reader as an automaton over bytes. The theorems `SheetsRead`, `FirstFault` and `NonEntryRefused` of specs/Theorems.antt say what it
 -- answers, by the grammar.
-use Rattle.std.specs.Prelude.{Bool, true, false, cond, ◌&&◌, List, [], ◌∷◌, ◌++◌, ℕ, suc, ◌+◌, ◌*◌, ◌-◌, eqb, ltb, length}
-use Rattle.std.proofs.Math.Option.{Option, none, some}
+use Rattle.std.specs.Prelude.{
+  Bool,
+  true,
+  false,
+  cond,
+  ◌&&◌,
+  List,
+  [],
+  ◌∷◌,
+  ◌++◌,
+  ℕ,
+  suc,
+  ◌+◌,
+  ◌*◌,
+  ◌-◌,
+  eqb,
+  ltb,
+  length,
+  Some,
+  None,
+  Option,
+}
 use Rattle.base.specs.Ranges.{within}
 use Rattle.emoji.specs.Unicode.{has_variation_sequence}
 use Rattle.policy.specs.declared.Policy.{Policy}
@@ -35,7 +55,7 @@ pub record State : Type 0 where
 
 -- The state where a piece of line k may start, at an offset.
 abbrev pub before_piece : ℕ → Bool → List Piece → ℕ → State
-before_piece k f xs at = record { line = k; fresh = f; pieces = xs; first = none; from = at; count = 0; value = 0 }
+before_piece k f xs at = record { line = k; fresh = f; pieces = xs; first = None; from = at; count = 0; value = 0 }
 
 -- The state before the first byte.
 abbrev pub start : State
@@ -59,8 +79,8 @@ number_read r = record { at = r.from; value = r.value }
 
 -- The first of two code points, if it is there.
 unfoldable pub or_else : Option Point → Point → Point
-or_else none x = x
-or_else (some y) x = y
+or_else None x = x
+or_else (Some y) x = y
 
 abbrev pub piece_read : State → Piece
 piece_read r = record { line = r.line; first = or_else r.first (number_read r); last = number_read r }
@@ -71,7 +91,7 @@ after_dash r at = record {
   line = r.line;
   fresh = false;
   pieces = r.pieces;
-  first = some (number_read r);
+  first = Some (number_read r);
   from = at;
   count = 0;
   value = 0;
@@ -79,23 +99,23 @@ after_dash r at = record {
 
 -- No dash was read in the piece.
 unfoldable pub is_none : Option Point → Bool
-is_none none = true
-is_none (some x) = false
+is_none None = true
+is_none (Some x) = false
 
 -- The state after a byte of a kind at an offset, or none if the byte cannot follow.
 unfoldable pub transition_by : ℕ → State → ByteKind → Option State
-transition_by at r (digit d) = cond (ltb r.count 6) (some (more_digits r d)) none
-transition_by at r comma = cond (allowed_digits r.count) (some (before_piece r.line false (r.pieces ++ (piece_read r ∷ [])) (at + 1)))
-    none
-transition_by at r dash = cond (is_none r.first && allowed_digits r.count) (some (after_dash r (at + 1))) none
+transition_by at r (digit d) = cond (ltb r.count 6) (Some (more_digits r d)) None
+transition_by at r comma = cond (allowed_digits r.count) (Some (before_piece r.line false (r.pieces ++ (piece_read r ∷ [])) (at + 1)))
+    None
+transition_by at r dash = cond (is_none r.first && allowed_digits r.count) (Some (after_dash r (at + 1))) None
 transition_by at r newline =
-    cond (allowed_digits r.count) (some (before_piece (suc r.line) true (r.pieces ++ (piece_read r ∷ [])) (at + 1)))
-    (cond r.fresh (some (before_piece (suc r.line) true r.pieces (at + 1))) none)
-transition_by at r other = none
+    cond (allowed_digits r.count) (Some (before_piece (suc r.line) true (r.pieces ++ (piece_read r ∷ [])) (at + 1)))
+    (cond r.fresh (Some (before_piece (suc r.line) true r.pieces (at + 1))) None)
+transition_by at r other = None
 
 -- The state after a byte at an offset. No byte follows the fourth line.
 unfoldable pub transition : ℕ → State → ℕ → Option State
-transition at r b = cond (ltb r.line 4) (transition_by at r (kind_of b)) none
+transition at r b = cond (ltb r.line 4) (transition_by at r (kind_of b)) None
 
 -- All bytes were read, or the byte at an offset cannot follow.
 pub data RunResult : Type 0 where
@@ -104,8 +124,8 @@ pub data RunResult : Type 0 where
 
 -- The next step, if the byte can follow.
 abbrev pub onward : Option State → RunResult → (State → RunResult) → RunResult
-onward none x f = x
-onward (some r) x f = f r
+onward None x f = x
+onward (Some r) x f = f r
 
 -- The automaton on bytes that start at an offset.
 unfoldable pub run : ℕ → State → List ℕ → RunResult
@@ -119,15 +139,15 @@ pieces_of (stopped n r) = r.pieces
 
 -- The start of the first range whose end is below its start.
 unfoldable pub first_descending : List Piece → Option ℕ
-first_descending [] = none
-first_descending (x ∷ xs) = cond (ltb x.last.value x.first.value) (some x.first.at) (first_descending xs)
+first_descending [] = None
+first_descending (x ∷ xs) = cond (ltb x.last.value x.first.value) (Some x.first.at) (first_descending xs)
 
 -- The offset of the first code point that is no variation entry.
 unfoldable pub first_non_entry : List Piece → Option ℕ
-first_non_entry [] = none
+first_non_entry [] = None
 first_non_entry (x ∷ xs) =
     cond (has_variation_sequence x.first.value)
-    (cond (has_variation_sequence x.last.value) (first_non_entry xs) (some x.last.at)) (some x.first.at)
+    (cond (has_variation_sequence x.last.value) (first_non_entry xs) (Some x.last.at)) (Some x.first.at)
 
 -- The result of reading: a policy, or refusal 11 or 12 with its offset.
 pub data SheetReading : Type 0 where
@@ -137,13 +157,13 @@ pub data SheetReading : Type 0 where
 
 -- Refusal 11 for a range that runs down, or another result.
 abbrev pub descending_or : Option ℕ → SheetReading → SheetReading
-descending_or (some n) x = not_a_sheet n
-descending_or none x = x
+descending_or (Some n) x = not_a_sheet n
+descending_or None x = x
 
 -- Refusal 12 for a code point that is no entry, or another result.
 abbrev pub non_entry_or : Option ℕ → SheetReading → SheetReading
-non_entry_or (some n) x = not_an_entry n
-non_entry_or none x = x
+non_entry_or (Some n) x = not_an_entry n
+non_entry_or None x = x
 
 -- The result for the pieces of a sheet in which no range runs down.
 abbrev pub read_pieces : List Piece → SheetReading

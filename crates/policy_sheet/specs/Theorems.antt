@@ -1,7 +1,7 @@
 -- The claims on policy sheets. proofs/Claims.antt proves each statement, under the same name in snake case (`FewestDigits` with `_lem`,
 -- since a definition has the name).
-use Rattle.std.specs.Prelude.{◌≡◌, ◌↔◌, Bool, true, false, List, [], ◌∷◌, ℕ, suc, ◌<◌, ◌≤◌, get_or, length, take}
-use Rattle.std.proofs.Math.Option.{some}
+use Rattle.base.specs.Answers.{answer_row}
+use Rattle.std.specs.Prelude.{◌≡◌, ◌↔◌, Bool, true, false, List, [], ◌∷◌, ℕ, suc, ◌<◌, ◌≤◌, get_or, length, take, Ok, Err, Some}
 use Rattle.base.specs.Refusals.{unwritten, written}
 use Rattle.base.specs.Words.{all_bytes}
 use Rattle.base.specs.declared.Refusal.{Refusal}
@@ -10,11 +10,10 @@ use Rattle.emoji.specs.UnicodeData.{variation_entries}
 use Rattle.policy_key_set.specs.Sets.{member}
 use Rattle.policy.specs.PolicyBytes.{PolicyValue, is_policy, no_unused_bits, policy_bytes, policy_of, policy_refusal}
 use Rattle.policy.specs.declared.Policy.{Policy}
-use Rattle.policy_sheet.specs.Calls.{read_call, sheet_row, write_call}
+use Rattle.policy_sheet.specs.Calls.{read_call, write_call}
 use Rattle.policy_sheet.specs.Grammar.{Begins, CodePoint, DescendingRange, IsSheet, Piece, Sheet}
 use Rattle.policy_sheet.specs.Meaning.{AllEntries, FirstNonEntry, Means, Rising}
 use Rattle.policy_sheet.specs.Reader.{is_read, not_a_sheet, not_an_entry, read_sheet}
-use Rattle.policy_sheet.specs.declared.SheetAnswer.TheVariants.{Refused, Written}
 use Rattle.policy_sheet.specs.Writer.{Run, fewest_digits, point_text, runs_of, write_sheet}
 
 -- A sheet has one reading: its bytes determine its pieces.
@@ -65,16 +64,16 @@ SheetsDeterminePolicies =
 -- The claim on reading, for all bytes. The tests are made in the order 1, 11, 12, 8, and a refusal leaves the output as it was. A policy
 -- has 200 bytes. No value of an answer is above the limit of a text.
 pub record ReadCall (sheet out : List ℕ) : Type 0 where
-  pub long : 16777217 ≤ length sheet → read_call sheet out ≡ unwritten (Refused TextTooLong) out
+  pub long : 16777217 ≤ length sheet → read_call sheet out ≡ unwritten (Err TextTooLong) out
   pub no_sheet : length sheet ≤ 16777216 → (n : ℕ) → read_sheet sheet ≡ not_a_sheet n
-      → read_call sheet out ≡ unwritten (Refused (NotASheet n)) out
+      → read_call sheet out ≡ unwritten (Err (NotASheet n)) out
   pub no_entry : length sheet ≤ 16777216 → (n : ℕ) → read_sheet sheet ≡ not_an_entry n
-      → read_call sheet out ≡ unwritten (Refused (NotAnEntry n)) out
+      → read_call sheet out ≡ unwritten (Err (NotAnEntry n)) out
   pub short : length sheet ≤ 16777216 → (p : Policy) → read_sheet sheet ≡ is_read p → length out < 200
-      → read_call sheet out ≡ unwritten (Refused (OutputTooShort 200)) out
+      → read_call sheet out ≡ unwritten (Err (OutputTooShort 200)) out
   pub done : length sheet ≤ 16777216 → (p : Policy) → read_sheet sheet ≡ is_read p → 200 ≤ length out
-      → read_call sheet out ≡ written (Written 200) (policy_bytes p) out
-  pub small : (sheet_row (read_call sheet out).answer).value ≤ 16777216
+      → read_call sheet out ≡ written (Ok 200) (policy_bytes p) out
+  pub small : (answer_row (read_call sheet out).answer).value ≤ 16777216
 
 unfoldable pub EveryReadCall : Type 0
 EveryReadCall = (sheet out : List ℕ) → ReadCall sheet out
@@ -82,15 +81,15 @@ EveryReadCall = (sheet out : List ℕ) → ReadCall sheet out
 -- The claim on writing, for all bytes. The policy is tested first, then the room, and a refusal leaves the output as it was. A written
 -- sheet has at most 9,916 bytes. ".. a written sheet reads back to its policy": reading it gives the bytes of the policy.
 pub record WriteCall (policy out : List ℕ) : Type 0 where
-  pub no_policy : (r : Refusal) → policy_refusal policy ≡ some r → write_call policy out ≡ unwritten (Refused r) out
+  pub no_policy : (r : Refusal) → policy_refusal policy ≡ Some r → write_call policy out ≡ unwritten (Err r) out
   pub short : is_policy policy ≡ true → length out < length (write_sheet (policy_of policy))
-      → write_call policy out ≡ unwritten (Refused (OutputTooShort (length (write_sheet (policy_of policy))))) out
+      → write_call policy out ≡ unwritten (Err (OutputTooShort (length (write_sheet (policy_of policy))))) out
   pub done : is_policy policy ≡ true → length (write_sheet (policy_of policy)) ≤ length out
-      → write_call policy out ≡ written (Written (length (write_sheet (policy_of policy)))) (write_sheet (policy_of policy)) out
+      → write_call policy out ≡ written (Ok (length (write_sheet (policy_of policy)))) (write_sheet (policy_of policy)) out
   pub few : length (write_sheet (policy_of policy)) ≤ 9916
-  pub small : (sheet_row (write_call policy out).answer).value ≤ 9916
+  pub small : (answer_row (write_call policy out).answer).value ≤ 9916
   pub reads_back : all_bytes policy ≡ true → is_policy policy ≡ true → (o : List ℕ) → 200 ≤ length o
-      → read_call (write_sheet (policy_of policy)) o ≡ written (Written 200) policy o
+      → read_call (write_sheet (policy_of policy)) o ≡ written (Ok 200) policy o
 
 unfoldable pub EveryWriteCall : Type 0
 EveryWriteCall = (policy out : List ℕ) → WriteCall policy out

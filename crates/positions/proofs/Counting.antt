@@ -2,11 +2,12 @@
 use mathlib.Core.Path.{◌≡◌, refl, ap, ap₂, sym, ◌∙◌, subst}
 use mathlib.Core.Logic.{⊎_elim}
 use mathlib.Core.List.{List, [], ◌∷◌, ◌++◌}
-use Prim.Native.Nat.{ℕ, ◌+◌, ◌*◌, ◌-◌, ◌/◌, ◌%◌, ◌^◌, ◌≤◌, ◌<◌}
+use Prim.Native.Nat.{ℕ, ◌+◌, ◌*◌, ◌-◌, ◌/◌, ◌%◌, ◌^◌, ◌≤◌, ◌<◌, min}
+use native.Mathlib.Nat.{min-eq_left, min-eq_right}
 use native.Mathlib.Omega.{arith}
 use native.Mathlib.Numerals.{add-one}
-use lib.ListN.{get_or, drop_of_length-le, length-drop, length, take, drop, length-append, length-take, take-append-drop}
-use lib.Seq.{drop-cons, drop-drop, take-add, take_all, take-nil}
+use lib.ListN.{get_or, drop_of_length-le, length-drop, length, take, drop, length-append, length-take}
+use lib.Seq.{drop-cons, drop-drop, take-add, take_all}
 use borrow.Author.Tests.{le-leb, lt-leb}
 use Rattle.base.proofs.Sums.{capped-held}
 use Rattle.base.proofs.Tests.{le_or_lt, within_true, within-above, within-below}
@@ -262,16 +263,19 @@ pub stretch-empty : (text : List ℕ) (from to : ℕ) → to ≤ from → stretc
 unfolding stretch
 stretch-empty text from to h = ap (λ (n : ℕ). take n (drop from text)) (let e : to - from ≡ 0 = omega arith in e)
 
-pub stretch-past : (text : List ℕ) (from to : ℕ) → length text ≤ from → stretch text from to ≡ []
-unfolding stretch
-stretch-past text from to h = ap (take (to - from)) (drop_of_length-le text h) ∙ take-nil (to - from)
-
 -- A stretch that ends after the text ends where the text does.
 pub stretch_cut : (text : List ℕ) (from to : ℕ) → length text ≤ to → stretch text from to ≡ take (length text - from) (drop from text)
 unfolding stretch
 stretch_cut text from to h =
     take_all (to - from) (drop from text) (omega (arith, length-drop from text))
     ∙ sym (take_all (length text - from) (drop from text) (omega (arith, length-drop from text)))
+
+pub stretch_within : (text : List ℕ) (from to : ℕ) → stretch text from (min to (length text)) ≡ stretch text from to
+unfolding stretch
+stretch_within text from to =
+    ⊎_elim (λ (l : length text ≤ to). ap (stretch text from) (min-eq_right l) ∙ sym (stretch_cut text from to l))
+    (λ (l : to < length text). ap (stretch text from) (min-eq_left (omega arith)))
+    (le_or_lt (length text) to)
 
 pub none-counted : counted [] ≡ no_count
 unfolding counted leads long_leads_of
@@ -288,21 +292,6 @@ pub long_leads-step : (s : List ℕ) (i : ℕ) → i < length s →
 unfolding long_leads_of
 long_leads-step s i h =
     ap long_leads_of (drop-cons s i 0 h) ∙ ap (λ (n : ℕ). is_long_lead (get_or s i 0) + long_leads_of (drop n s)) (sym (add-one i))
-
-pub leads-on : (s : List ℕ) (i e : ℕ) → i ≤ e → leads (drop i s) ≡ leads (take (e - i) (drop i s)) + leads (drop e s)
-leads-on s i e h =
-    let n = e - i in
-    ap leads (sym (take-append-drop n (drop i s))) ∙ leads_append (take n (drop i s)) (drop n (drop i s))
-    ∙ ap (λ (l : List ℕ). leads (take n (drop i s)) + leads l)
-    (drop-drop n i s ∙ ap (λ (k : ℕ). drop k s) (let q : i + n ≡ e = omega arith in q))
-
-pub long_leads-on : (s : List ℕ) (i e : ℕ) → i ≤ e →
-    long_leads_of (drop i s) ≡ long_leads_of (take (e - i) (drop i s)) + long_leads_of (drop e s)
-long_leads-on s i e h =
-    let n = e - i in
-    ap long_leads_of (sym (take-append-drop n (drop i s))) ∙ long_leads_append (take n (drop i s)) (drop n (drop i s))
-    ∙ ap (λ (l : List ℕ). long_leads_of (take n (drop i s)) + long_leads_of l)
-    (drop-drop n i s ∙ ap (λ (k : ℕ). drop k s) (let q : i + n ≡ e = omega arith in q))
 
 pub leads_end : (s : List ℕ) (i : ℕ) → length s ≤ i → leads (drop i s) ≡ 0
 unfolding leads

@@ -3,20 +3,20 @@
 // the difference of their positions: specs/Theorems.antt, PositionsDiffer.
 #![tactic(auto)]
 
-ghost use Rattle.std.specs.Prelude.{◌≡◌, ◌≤◌, ◌<◌, length};
+ghost use Rattle.std.specs.Prelude.{◌≡◌, ◌≤◌, length};
 ghost use Rattle.positions.specs.Positions.{capped_plus, count_between, counted, is_lead, is_long_lead, leads, long_leads_of};
 
 use base::add_count;
 
 // A number of characters, and a number of UTF-16 units.
-#[derive(Clone, Copy)]
+#[derive(Clone, Copy, Debug, PartialEq, Eq)]
 pub struct TextCount {
     pub chars: usize,
     pub units: usize,
 }
 
 // The lead bytes of a few bytes, and those of four bytes.
-#[derive(Clone, Copy)]
+#[derive(Clone, Copy, Debug, PartialEq, Eq)]
 struct FewLeads {
     leads: u8,
     long_leads: u8,
@@ -26,26 +26,19 @@ struct FewLeads {
 const FEW: usize = 192;
 
 // 1 for a lead byte, which is outside 80..BF.
+#[tactic(auto, unfolding(crate::specs::Positions::is_lead))]
 fn is_lead(b: u8) -> u8
     ensures { result ≡ is_lead b }
 {
-    if b < 0x80 {
-        return 1;
-    }
-    if 0xBF < b {
-        return 1;
-    }
-    0
+    u8::from(!(0x80..=0xBF).contains(&b))
 }
 
 // 1 for the lead byte of four bytes.
+#[tactic(auto, unfolding(crate::specs::Positions::is_long_lead))]
 fn is_long_lead(b: u8) -> u8
     ensures { result ≡ is_long_lead b }
 {
-    if 0xF0 <= b {
-        return 1;
-    }
-    0
+    u8::from(0xF0 <= b)
 }
 
 // The lead bytes of at most 192 bytes. No branch depends on a byte and the sums have 8 bits, so the compiler counts sixteen bytes at
@@ -57,35 +50,14 @@ fn count_few(part: &[u8]) -> FewLeads
 {
     let mut leads: u8 = 0;
     let mut long: u8 = 0;
-    let mut i = 0;
-    while i < part.len() {
-        leads += is_lead(part[i]);
-        long += is_long_lead(part[i]);
-        i += 1;
+    for b in part {
+        leads += is_lead(*b);
+        long += is_long_lead(*b);
     }
     FewLeads {
         leads,
         long_leads: long,
     }
-}
-
-// A byte as a wider number.
-fn wide(b: u8) -> usize
-    ensures { result ≡ b }
-{
-    b as usize
-}
-
-// How many of n bytes are counted next.
-fn next_few(n: usize) -> usize
-    ensures few { result ≤ 192 }
-    ensures left { result ≤ n }
-    ensures some { 0 < n → 0 < result }
-{
-    if FEW < n {
-        return FEW;
-    }
-    n
 }
 
 // The characters and units of bytes.
@@ -94,18 +66,14 @@ fn count(part: &[u8]) -> TextCount
 {
     let mut leads: usize = 0;
     let mut long: usize = 0;
-    let mut i = 0;
-    while i < part.len() {
-        let e = i + next_few(part.len() - i);
-        let few = count_few(&part[i..e]);
-        leads += wide(few.leads);
-        long += wide(few.long_leads);
-        i = e;
+    for bytes in part.chunks(FEW) {
+        let few = count_few(bytes);
+        leads += usize::from(few.leads);
+        long += usize::from(few.long_leads);
     }
-    let units = leads + long;
     TextCount {
         chars: leads,
-        units,
+        units: leads + long,
     }
 }
 
@@ -113,23 +81,18 @@ fn count(part: &[u8]) -> TextCount
 pub fn count_between(text: &[u8], from: usize, to: usize) -> TextCount
     ensures { result ≡ count_between text.now from to }
 {
-    if to <= from {
-        return TextCount { chars: 0, units: 0 };
+    match text.get(from..to.min(text.len())) {
+        Some(part) => count(part),
+        None => TextCount { chars: 0, units: 0 },
     }
-    if text.len() <= from {
-        return TextCount { chars: 0, units: 0 };
-    }
-    if text.len() <= to {
-        return count(&text[from..]);
-    }
-    count(&text[from..to])
 }
 
 // Two counts together. A sum above the largest number becomes the largest number.
 pub fn add_counts(before: TextCount, more: TextCount) -> TextCount
     ensures { result ≡ capped_plus before more }
 {
-    let chars = add_count(before.chars, more.chars);
-    let units = add_count(before.units, more.units);
-    TextCount { chars, units }
+    TextCount {
+        chars: add_count(before.chars, more.chars),
+        units: add_count(before.units, more.units),
+    }
 }

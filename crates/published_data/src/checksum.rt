@@ -4,28 +4,18 @@
 // Returns the remainder after one more bit, lowest bit first.
 fn after_bit(crc: u32) -> u32 {
     if crc % 2 == 1 {
-        return (crc / 2) ^ 0xEDB8_8320;
+        (crc / 2) ^ 0xEDB8_8320
+    } else {
+        crc / 2
     }
-    crc / 2
-}
-
-// Returns the remainder after four more bits.
-fn after_four(crc: u32) -> u32 {
-    after_bit(after_bit(after_bit(after_bit(crc))))
 }
 
 // Returns the remainder after the byte b.
 fn after_byte(crc: u32, b: u8) -> u32 {
-    after_four(after_four(crc ^ (b as u32)))
+    (0..8).fold(crc ^ u32::from(b), |crc, _| after_bit(crc))
 }
 
 // Returns the CRC-32 of the text.
 pub(crate) fn crc_32(text: &[u8]) -> u32 {
-    let mut crc: u32 = 0xFFFF_FFFF;
-    let mut i = 0;
-    while i < text.len() {
-        crc = after_byte(crc, text[i]);
-        i += 1;
-    }
-    crc ^ 0xFFFF_FFFF
+    !text.iter().fold(u32::MAX, |crc, b| after_byte(crc, *b))
 }

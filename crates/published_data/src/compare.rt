@@ -1,121 +1,112 @@
-// Compares a table of the crate `emoji` with a published file. The code points that the file lists are marked in a
-// set. At each code point, the set and the table must agree.
-use crate::marks::{CODE_POINTS, WORDS, is_marked, mark_at, mark_range};
-use crate::parse::{line_at, next_line};
-use crate::tables::{Listed, Table, has, listed_in};
-use emoji::{VariationEntry, VariationSequenceIndex};
+// Compares a table of the crate `emoji` with a published file. The code points that the file lists are put in a set. At
+// each code point, the set and the table must agree.
+use crate::code_points::{CODE_POINTS, CodePointSet};
+use crate::parse::{Line, is_line_feed};
+use crate::tables::{File, Table};
+use std::fmt;
+use std::fmt::Write;
 
-// The first code point at which the file and the table differ, and which of them has it.
-#[derive(Clone, Copy)]
-pub enum Difference {
-    Nowhere,
-    FileOnly(u32),
-    TableOnly(u32),
+// The first difference between a table and its file: a line that lists a code point again, a code point that only one
+// of the two has, a code point with a wrong variation entry, or an entry after the last.
+#[derive(Clone, Copy, Debug, PartialEq, Eq)]
+pub enum Mismatch {
+    Again { file: File, number: usize },
+    FileOnly { table: Table, ch: u32 },
+    TableOnly { table: Table, ch: u32 },
+    WrongEntry { ch: u32 },
+    ExtraEntry { ch: u32 },
 }
 
-// The result of comparing the entries: their number if they are as in the file, the first code point whose entry is
-// wrong, or an entry after the last.
-#[derive(Clone, Copy)]
-pub enum Entries {
-    Same(usize),
-    Wrong(u32),
-    Extra(u32),
-}
-
-// Marks the code points that a line lists for the table. Returns false if one of them is already marked.
-fn mark_line(line: &[u8], table: Table, marks: &mut [u64; WORDS]) -> bool {
-    match listed_in(line, table) {
-        Listed::Points(first, last) => mark_range(marks, first, last),
-        Listed::Nothing => true,
-    }
-}
-
-// Marks the code points that the lines list for the table. Returns 0, or the number of the line that lists a code point
-// again.
-pub(crate) fn mark_lines(text: &[u8], table: Table, marks: &mut [u64; WORDS]) -> usize {
-    let mut at = 0;
-    let mut number = 0;
-    while at < text.len() {
-        number += 1;
-        if !mark_line(line_at(text, at), table, marks) {
-            return number;
+impl fmt::Display for Mismatch {
+    fn fmt<W: Write>(&self, f: &mut fmt::Formatter<W>) -> fmt::Result {
+        match *self {
+            Mismatch::Again { file, number } => {
+                write!(f, "{file}: line {number} lists a code point again")
+            }
+            Mismatch::FileOnly { table, ch } => {
+                write!(f, "{table} differs first at U+{ch:04X}: in the file only")
+            }
+            Mismatch::TableOnly { table, ch } => {
+                write!(f, "{table} differs first at U+{ch:04X}: in the table only")
+            }
+            Mismatch::WrongEntry { ch } => {
+                write!(
+                    f,
+                    "variation sequences: the entry or the index is wrong first at U+{ch:04X}"
+                )
+            }
+            Mismatch::ExtraEntry { ch } => {
+                write!(
+                    f,
+                    "variation sequences: an entry after the last, U+{ch:04X}"
+                )
+            }
         }
-        at = next_line(text, at);
     }
-    0
+}
+
+// Returns the code points that the file lists for the table. No line may list one again.
+fn listed(text: &[u8], table: Table) -> Result<CodePointSet, Mismatch> {
+    let mut set = CodePointSet::new();
+    for (number, line) in (1..).zip(text.split_inclusive(is_line_feed)) {
+        if let Ok(Line::Data(line)) = Line::parse(line)
+            && table.lists(&line)
+            && !set.insert_all(line.points.range())
+        {
+            return Err(Mismatch::Again {
+                file: table.file(),
+                number,
+            });
+        }
+    }
+    Ok(set)
 }
 
 // Returns the difference at the code point ch.
-fn difference_at(marks: &[u64; WORDS], table: Table, ch: u32) -> Difference {
-    if is_marked(marks, ch) {
-        if has(table, ch) {
-            return Difference::Nowhere;
-        }
-        return Difference::FileOnly(ch);
-    }
-    if has(table, ch) {
-        return Difference::TableOnly(ch);
-    }
-    Difference::Nowhere
-}
-
-// Returns the first difference between the marked set and the table.
-pub(crate) fn first_difference(marks: &[u64; WORDS], table: Table) -> Difference {
-    let mut ch = 0;
-    while ch < CODE_POINTS {
-        let difference = difference_at(marks, table, ch);
-        match difference {
-            Difference::FileOnly(_) => return difference,
-            Difference::TableOnly(_) => return difference,
-            Difference::Nowhere => {}
-        }
-        ch += 1;
-    }
-    Difference::Nowhere
-}
-
-// Tests whether ch is the entry at `index`.
-fn is_entry(index: usize, ch: u32) -> bool {
-    match emoji::variation_entry(index) {
-        VariationEntry::Char(entry) => entry == ch,
-        VariationEntry::NoEntry => false,
+fn difference_at(set: &CodePointSet, table: Table, ch: u32) -> Option<Mismatch> {
+    match (set.contains(ch), table.has(ch)) {
+        (true, false) => Some(Mismatch::FileOnly { table, ch }),
+        (false, true) => Some(Mismatch::TableOnly { table, ch }),
+        _ => None,
     }
 }
 
-// Tests whether ch has the entry at `index` if it is marked, and no entry if it is not.
-fn entry_agrees(marks: &[u64; WORDS], ch: u32, index: usize) -> bool {
+// Returns the code points that the file lists for the table, if they are those of the table.
+pub(crate) fn compare_table(text: &[u8], table: Table) -> Result<CodePointSet, Mismatch> {
+    let set = listed(text, table)?;
+    match (0..CODE_POINTS).find_map(|ch| difference_at(&set, table, ch)) {
+        Some(mismatch) => Err(mismatch),
+        None => Ok(set),
+    }
+}
+
+// Tests whether ch has the entry at `index` if it is in the set, and no entry if it is not.
+fn entry_agrees(set: &CodePointSet, ch: u32, index: usize) -> bool {
     match emoji::variation_sequence_index(ch) {
-        VariationSequenceIndex::At(at) => {
-            if at != index {
-                return false;
-            }
-            if !is_entry(index, ch) {
-                return false;
-            }
-            is_marked(marks, ch)
-        }
-        VariationSequenceIndex::NoEntry => !is_marked(marks, ch),
+        Some(at) => set.contains(ch) && at == index && emoji::variation_entry(index) == Some(ch),
+        None => !set.contains(ch),
     }
 }
 
-// Returns the result for the entry at `count`, where no entry may be.
-fn past_the_last(count: usize) -> Entries {
-    match emoji::variation_entry(count) {
-        VariationEntry::Char(entry) => Entries::Extra(entry),
-        VariationEntry::NoEntry => Entries::Same(count),
-    }
-}
-
-// Tests whether the entries are the marked code points in ascending order, with no entry after the last.
-pub(crate) fn compare_entries(marks: &[u64; WORDS]) -> Entries {
+// Returns the number of entries, if they are the code points of the set in ascending order, with no entry after the
+// last.
+fn compare_entries(set: &CodePointSet) -> Result<usize, Mismatch> {
     let mut index = 0;
-    let mut ch = 0;
-    while ch < CODE_POINTS {
-        if !entry_agrees(marks, ch, index) {
-            return Entries::Wrong(ch);
+    for ch in 0..CODE_POINTS {
+        if !entry_agrees(set, ch, index) {
+            return Err(Mismatch::WrongEntry { ch });
         }
-        index += mark_at(marks, ch);
-        ch += 1;
+        index += usize::from(set.contains(ch));
     }
-    past_the_last(index)
+    match emoji::variation_entry(index) {
+        Some(ch) => Err(Mismatch::ExtraEntry { ch }),
+        None => Ok(index),
+    }
+}
+
+// Returns the number of variation entries, if each style and the entries are as in the file.
+pub(crate) fn compare_sequences(text: &[u8]) -> Result<usize, Mismatch> {
+    compare_table(text, Table::TextStyle)?;
+    let set = compare_table(text, Table::EmojiStyle)?;
+    compare_entries(&set)
 }

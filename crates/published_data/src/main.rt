@@ -5,128 +5,100 @@
 #![tactic(auto)]
 
 mod checksum;
+mod code_points;
 mod compare;
 mod forms;
-mod marks;
 mod parse;
 mod report;
 mod survey;
 mod tables;
 
-ghost use Rattle.std.specs.Io.{ReadsAtMost};
-
-use marks::WORDS;
-use report::{say_file, say_line};
+use checksum::crc_32;
+use code_points::CODE_POINTS;
+use emoji::unicode_data::UNICODE_VERSION;
+use report::Count;
 use std::io::Read;
 use std::rt::Files;
 use std::{fs, io};
+use survey::{Survey, TABLES_VERSION};
 use tables::{File, Table};
 
 // The length of the buffer for a file. The file must be shorter.
 const ROOM: usize = 131072;
 
-// Marks the code points that the file lists for the table, and compares the two. If they differ, it writes the
-// difference and returns false.
-fn agrees(
-    rt: &impl Print,
-    name: &str,
-    text: &[u8],
-    table: Table,
-    marks: &mut [u64; WORDS],
-) -> io::Result<bool> {
-    let again = compare::mark_lines(text, table, marks);
-    if again > 0 {
-        say_line(rt, name, again, "lists a code point again")?;
-        return Ok(false);
-    }
-    report::say_difference(rt, table, compare::first_difference(marks, table))
-}
+// The tables that are compared with emoji-data.txt.
+const PROPERTY_TABLES: [Table; 5] = [
+    Table::Emoji,
+    Table::EmojiPresentation,
+    Table::EmojiModifier,
+    Table::EmojiModifierBase,
+    Table::RegionalIndicator,
+];
 
 // Compares the table of a property with emoji-data.txt.
-fn check_property(rt: &impl Print, name: &str, text: &[u8], table: Table) -> io::Result<()> {
-    let mut marks = [0u64; WORDS];
-    if agrees(rt, name, text, table, &mut marks)? {
-        report::say_as_published(rt, table, marks::size_of(&marks))?;
+fn check_property(rt: &impl Print, text: &[u8], table: Table) -> io::Result<()> {
+    match compare::compare_table(text, table) {
+        Ok(set) => println!(rt; "{table}: {}, as published", set.size()),
+        Err(mismatch) => println!(rt; "{mismatch}"),
     }
-    Ok(())
 }
 
-// Compares the tables of the properties with emoji-data.txt.
-fn check_properties(rt: &impl Print, name: &str, text: &[u8]) -> io::Result<()> {
-    check_property(rt, name, text, Table::Emoji)?;
-    check_property(rt, name, text, Table::EmojiPresentation)?;
-    check_property(rt, name, text, Table::EmojiModifier)?;
-    check_property(rt, name, text, Table::EmojiModifierBase)?;
-    check_property(rt, name, text, Table::RegionalIndicator)
+// Compares the variation sequences with emoji-variation-sequences.txt.
+fn check_sequences(rt: &impl Print, text: &[u8]) -> io::Result<()> {
+    match compare::compare_sequences(text) {
+        Ok(count) => println!(rt; "variation sequences: {count} entries, as published"),
+        Err(mismatch) => println!(rt; "{mismatch}"),
+    }
 }
 
-// Compares the variation sequences with emoji-variation-sequences.txt: each style, then the entries.
-fn check_sequences(rt: &impl Print, name: &str, text: &[u8]) -> io::Result<()> {
-    let mut text_style = [0u64; WORDS];
-    if !agrees(rt, name, text, Table::TextStyle, &mut text_style)? {
-        return Ok(());
+// Compares the tables with the text of a file.
+fn check_tables(rt: &impl Print, text: &[u8], file: File) -> io::Result<()> {
+    match file {
+        File::Properties => {
+            for table in PROPERTY_TABLES {
+                check_property(rt, text, table)?;
+            }
+            Ok(())
+        }
+        File::Sequences => check_sequences(rt, text),
     }
-    let mut emoji_style = [0u64; WORDS];
-    if !agrees(rt, name, text, Table::EmojiStyle, &mut emoji_style)? {
-        return Ok(());
-    }
-    report::say_entries(rt, compare::compare_entries(&emoji_style))
 }
 
 // Compares the tables with the text of a file, if each of its lines follows the format.
-fn check_text(rt: &impl Print, name: &str, text: &[u8], file: File) -> io::Result<()> {
-    let survey = survey::survey_of(text, file);
-    if survey.bad > 0 {
-        return say_line(rt, name, survey.bad, "does not follow the format");
+fn check_text(rt: &impl Print, text: &[u8], file: File) -> io::Result<()> {
+    let survey = match Survey::of(text, file) {
+        Ok(survey) => survey,
+        Err(bad_line) => return println!(rt; "{file}: {bad_line}"),
+    };
+    println!(rt; "{file}: {survey}, CRC-32 {:08x}", crc_32(text))?;
+    if let Some(number) = survey.wrong_total {
+        println!(rt; "{file}: line {number} states a total that the lines above do not have")?;
     }
-    report::say_survey(rt, name, survey, checksum::crc_32(text))?;
-    let totals = survey.totals;
-    if totals.wrong > 0 {
-        say_line(
-            rt,
-            name,
-            totals.wrong,
-            "states a total that the lines above do not have",
-        )?;
-    }
-    match file {
-        File::Properties => check_properties(rt, name, text),
-        File::Sequences => check_sequences(rt, name, text),
-    }
-}
-
-// Reads until the buffer is full or the input ends. Returns the number of bytes read, which stand at the start of the
-// buffer.
-fn read_full<R: Read>(reader: &mut R, buf: &mut [u8]) -> io::Result<usize>
-    ensures { ReadsAtMost result buf.new }
-{
-    let mut done = 0;
-    while done < buf.len() {
-        let n = reader.read(&mut buf[done..])?;
-        if n == 0 {
-            return Ok(done);
-        }
-        done += n;
-    }
-    Ok(done)
+    check_tables(rt, text, file)
 }
 
 // Reads a file and compares the tables with it.
-fn check_file<R: Files + Print>(rt: &R, name: &str, file: File) -> io::Result<()> {
-    let Ok(mut reader) = fs::open(rt, name) else {
-        return say_file(rt, name, "cannot be opened");
+fn check_file<R: Files + Print>(rt: &R, file: File) -> io::Result<()> {
+    let Ok(reader) = fs::open(rt, file.name()) else {
+        return println!(rt; "{file}: cannot be opened");
     };
     let mut buf = [0u8; ROOM];
-    let n = read_full(&mut reader, &mut buf)?;
-    if n == ROOM {
-        return say_file(rt, name, "is longer than the buffer");
+    let len = io::copy(&mut reader.take(ROOM as u64), &mut &mut buf[..])?;
+    match buf.get(..len as usize) {
+        Some(text) if text.len() < ROOM => check_text(rt, text, file),
+        _ => println!(rt; "{file}: is longer than the buffer"),
     }
-    check_text(rt, name, &buf[..n], file)
 }
 
 fn main(rt: HostRuntime) -> io::Result<()> {
-    report::say_tables_version(&rt)?;
-    check_file(&rt, "emoji-data.txt", File::Properties)?;
-    check_file(&rt, "emoji-variation-sequences.txt", File::Sequences)?;
-    report::say_forms(&rt, forms::compare_forms())
+    println!(rt; "Unicode {TABLES_VERSION}, as a word {UNICODE_VERSION}")?;
+    check_file(&rt, File::Properties)?;
+    check_file(&rt, File::Sequences)?;
+    match forms::first_difference() {
+        None => {
+            let count = Count(CODE_POINTS as usize, "code point");
+            println!(rt; "fast forms: as the plain ones at {count}")
+        }
+        Some(ch) => println!(rt; "fast forms differ from the plain ones first at U+{ch:04X}"),
+    }
 }

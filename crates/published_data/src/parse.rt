@@ -1,251 +1,145 @@
 // Parses a line of the two published files. A line is empty, a comment that starts with `#`, or `<code points> ;
-// <field> # <comments>`, as the header of emoji-data.txt says. The code points are one, a range `A..B`, or a sequence
-// `A B` of two. The module `tables` decides which fields are allowed.
-ghost use Rattle.std.specs.Prelude.{◌<◌, ◌≤◌, length};
+// <field> # <comment>`, as the header of emoji-data.txt says. The code points are one, a range `A..B`, or a sequence
+// `A B` of two. The module `tables` decides which fields are allowed. The parts before a comment are text. A comment
+// may be any bytes, so it stays a slice.
+ghost use Rattle.std.specs.Prelude.{◌≤◌};
 
-// A parsed line. `field` is the offset of the field after the semicolon.
-#[derive(Clone, Copy)]
-pub enum Line {
-    Blank,
-    Comment,
-    Range {
-        first: u32,
-        last: u32,
-        field: usize,
-    },
-    Sequence {
-        first: u32,
-        second: u32,
-        field: usize,
-    },
-    Bad,
-}
-
-// The offset after a match, or no match.
-#[derive(Clone, Copy)]
-pub enum Place {
-    Past(usize),
-    Missing,
-}
-
-// A number and the offset after its digits, or no number.
-#[derive(Clone, Copy)]
-pub enum Number {
-    Value(u32, usize),
-    NoNumber,
-}
+use std::ops::RangeInclusive;
+use std::str;
+use std::str::FromStr;
 
 // The parser accepts no larger number.
 const LARGEST: u32 = 0xFF_FFFF;
 
-// Returns the end of the line that starts at `at`: its line feed, or the end of the text.
-fn line_end(text: &[u8], at: usize) -> usize
-    requires { at ≤ length text.now }
-    ensures { (at ≤ result) × (result ≤ length text.now) }
-{
-    let mut i = at;
-    while i < text.len() {
-        if text[i] == b'\n' {
-            return i;
-        }
-        i += 1;
+// The code points of a line, `first` to `last`. A sequence has one character and a selector.
+#[derive(Clone, Copy, Debug, PartialEq, Eq)]
+pub struct Points {
+    pub first: u32,
+    pub last: u32,
+    pub selector: Option<u32>,
+    ghost ordered: { first ≤ last },
+}
+
+// A line with code points. The comment begins with its `#`.
+#[derive(Clone, Copy, Debug, PartialEq, Eq)]
+pub struct DataLine<'a> {
+    pub points: Points,
+    pub field: &'a str,
+    pub comment: &'a [u8],
+}
+
+// A parsed line. A line that is a comment is given without its `#`.
+#[derive(Clone, Copy, Debug, PartialEq, Eq)]
+pub enum Line<'a> {
+    Blank,
+    Comment(&'a [u8]),
+    Data(DataLine<'a>),
+}
+
+// The reason why a line does not follow the format.
+#[derive(Clone, Copy, Debug, PartialEq, Eq)]
+pub enum LineError {
+    NoComment,
+    NotText,
+    NoField,
+    NoCodePoint,
+    Descending,
+    UnknownField,
+}
+
+impl Points {
+    // Returns the range that the line lists. The selector of a sequence is not listed.
+    pub(crate) fn range(self) -> RangeInclusive<u32> {
+        self.first..=self.last
     }
-    i
-}
 
-// Returns the line that starts at `at`, without its line feed.
-pub(crate) fn line_at(text: &[u8], at: usize) -> &[u8]
-    requires { at ≤ length text.now }
-{
-    let end = line_end(text, at);
-    &text[at..end]
-}
-
-// Returns the start of the line after the line at `at`.
-pub(crate) fn next_line(text: &[u8], at: usize) -> usize
-    requires { at < length text.now }
-    ensures { (at < result) × (result ≤ length text.now) }
-{
-    let end = line_end(text, at);
-    if end < text.len() {
-        return end + 1;
-    }
-    text.len()
-}
-
-// Returns the first offset from `at` on that is not a blank.
-fn skip_blanks(line: &[u8], at: usize) -> usize {
-    let mut i = at;
-    while i < line.len() {
-        if line[i] != b' ' {
-            return i;
-        }
-        i += 1;
-    }
-    i
-}
-
-// Returns the offset after `word`, if the line has it at `at`.
-pub(crate) fn after(line: &[u8], at: usize, word: &[u8]) -> Place {
-    let mut i = at;
-    let mut k = 0;
-    while k < word.len() {
-        if i >= line.len() {
-            return Place::Missing;
-        }
-        if line[i] != word[k] {
-            return Place::Missing;
-        }
-        i += 1;
-        k += 1;
-    }
-    Place::Past(i)
-}
-
-// Tests whether the line has `word` at `at` or later.
-pub(crate) fn contains(line: &[u8], at: usize, word: &[u8]) -> bool {
-    let mut i = at;
-    while i < line.len() {
-        if let Place::Past(_) = after(line, i, word) {
-            return true;
-        }
-        i += 1;
-    }
-    false
-}
-
-// Tests whether the field is exactly `name`, with comments after it.
-pub(crate) fn field_is(line: &[u8], field: usize, name: &[u8]) -> bool {
-    let Place::Past(end) = after(line, field, name) else {
-        return false;
-    };
-    if let Place::Past(_) = after(line, skip_blanks(line, end), b"#") {
-        true
-    } else {
-        false
+    // Returns the number of code points in the range.
+    pub(crate) fn len(self) -> u64 {
+        u64::from(self.last - self.first) + 1
     }
 }
 
-// Returns the value of a digit `0` to `9` or `A` to `F`, or 16 for any other byte.
-fn digit_value(b: u8) -> u32
-    ensures { result ≤ 16 }
-{
-    match b {
-        b'0'..=b'9' => (b - b'0') as u32,
-        b'A'..=b'F' => (b - b'A') as u32 + 10,
-        _ => 16,
+// Tests whether a byte ends a line.
+pub(crate) fn is_line_feed(b: &u8) -> bool {
+    *b == b'\n'
+}
+
+// Parses a code point: 4 to 6 digits `0` to `9` or `A` to `F`, at most 10FFFF.
+fn code_point(digits: &str) -> Result<u32, LineError> {
+    let is_written = (4..=6).contains(&digits.len())
+        && digits
+            .bytes()
+            .all(|b| matches!(b, b'0'..=b'9' | b'A'..=b'F'));
+    match u32::from_str_radix(digits, 16) {
+        Ok(ch) if is_written && ch <= 0x10_FFFF => Ok(ch),
+        _ => Err(LineError::NoCodePoint),
     }
 }
 
-// Returns `value` with one more digit in base 10 or 16, or `value` itself if it is already too large.
-fn with_digit(value: u32, base: u32, digit: u32) -> u32
-    requires { digit ≤ 16 }
-{
-    if value > LARGEST {
-        return value;
-    }
-    if base == 10 {
-        return value * 10 + digit;
-    }
-    value * 16 + digit
-}
+impl FromStr for Points {
+    type Err = LineError;
 
-// Returns the number in base 10 or 16 whose digits start at `at`.
-pub(crate) fn number_at(line: &[u8], at: usize, base: u32) -> Number {
-    let mut value = 0;
-    let mut i = at;
-    while i < line.len() {
-        let digit = digit_value(line[i]);
-        if digit >= base {
-            break;
-        }
-        value = with_digit(value, base, digit);
-        i += 1;
-    }
-    if i == at {
-        return Number::NoNumber;
-    }
-    if value > LARGEST {
-        return Number::NoNumber;
-    }
-    Number::Value(value, i)
-}
-
-// Returns the code point at `at`: 4 to 6 digits in base 16, at most 10FFFF.
-fn code_point(line: &[u8], at: usize) -> Number {
-    let Number::Value(value, end) = number_at(line, at, 16) else {
-        return Number::NoNumber;
-    };
-    if end < at {
-        return Number::NoNumber;
-    }
-    if end - at < 4 {
-        return Number::NoNumber;
-    }
-    if end - at > 6 {
-        return Number::NoNumber;
-    }
-    if value > 0x10_FFFF {
-        return Number::NoNumber;
-    }
-    Number::Value(value, end)
-}
-
-// Returns the offset of the field, if there is a semicolon at `at` or after blanks.
-fn field_after(line: &[u8], at: usize) -> Place {
-    let Place::Past(end) = after(line, skip_blanks(line, at), b";") else {
-        return Place::Missing;
-    };
-    Place::Past(skip_blanks(line, end))
-}
-
-// Parses the rest of the line of the range `first` to `last`, whose digits end at `end`.
-fn range_line(line: &[u8], first: u32, last: u32, end: usize) -> Line {
-    let Place::Past(field) = field_after(line, end) else {
-        return Line::Bad;
-    };
-    if last < first {
-        return Line::Bad;
-    }
-    Line::Range { first, last, field }
-}
-
-// Parses the rest of the line of the sequence `first` and `second`, whose digits end at `end`.
-fn sequence_line(line: &[u8], first: u32, second: u32, end: usize) -> Line {
-    let Place::Past(field) = field_after(line, end) else {
-        return Line::Bad;
-    };
-    Line::Sequence {
-        first,
-        second,
-        field,
-    }
-}
-
-// Parses the rest of a line that starts with the code point `first`, whose digits end at `end`.
-fn data_line(line: &[u8], first: u32, end: usize) -> Line {
-    if let Place::Past(at) = after(line, end, b"..") {
-        let Number::Value(last, stop) = code_point(line, at) else {
-            return Line::Bad;
+    fn from_str(text: &str) -> Result<Points, LineError> {
+        let (first, last, selector) = if let Some((first, last)) = text.split_once("..") {
+            (code_point(first)?, code_point(last)?, None)
+        } else if let Some((first, selector)) = text.split_once(' ') {
+            let first = code_point(first)?;
+            let selector = code_point(selector.trim_start_matches(' '))?;
+            (first, first, Some(selector))
+        } else {
+            let first = code_point(text)?;
+            (first, first, None)
         };
-        return range_line(line, first, last, stop);
+        if last < first {
+            return Err(LineError::Descending);
+        }
+        Ok(Points {
+            first,
+            last,
+            selector,
+        })
     }
-    let Number::Value(second, stop) = code_point(line, skip_blanks(line, end)) else {
-        return range_line(line, first, first, end);
-    };
-    sequence_line(line, first, second, stop)
 }
 
-// Parses a line without its line feed.
-pub(crate) fn parse_line(line: &[u8]) -> Line {
-    if line.len() == 0 {
-        return Line::Blank;
+impl<'a> DataLine<'a> {
+    // Parses a line that is neither empty nor a comment.
+    fn parse(line: &'a [u8]) -> Result<DataLine<'a>, LineError> {
+        let at = line
+            .iter()
+            .position(|b| *b == b'#')
+            .ok_or(LineError::NoComment)?;
+        let (front, comment) = line.split_at(at);
+        let front = str::from_utf8(front).map_err(|_| LineError::NotText)?;
+        let (points, field) = front.split_once(';').ok_or(LineError::NoField)?;
+        Ok(DataLine {
+            points: points.trim_end_matches(' ').parse()?,
+            field: field.trim_matches(' '),
+            comment,
+        })
     }
-    if line[0] == b'#' {
-        return Line::Comment;
+}
+
+impl<'a> Line<'a> {
+    // Parses a line, with its line feed or without.
+    pub(crate) fn parse(line: &'a [u8]) -> Result<Line<'a>, LineError> {
+        match line.strip_suffix(b"\n").unwrap_or(line) {
+            [] => Ok(Line::Blank),
+            [b'#', comment @ ..] => Ok(Line::Comment(comment)),
+            line => Ok(Line::Data(DataLine::parse(line)?)),
+        }
     }
-    let Number::Value(first, end) = code_point(line, 0) else {
-        return Line::Bad;
-    };
-    data_line(line, first, end)
+}
+
+// Returns the number in base 10 at the start of a text, and what follows its digits.
+pub(crate) fn number(text: &[u8]) -> Option<(u32, &[u8])> {
+    let len = text
+        .iter()
+        .position(|b| !b.is_ascii_digit())
+        .unwrap_or(text.len());
+    let (digits, rest) = text.split_at(len);
+    let value: u32 = str::from_utf8(digits).ok()?.parse().ok()?;
+    if value > LARGEST {
+        return None;
+    }
+    Some((value, rest))
 }

@@ -1,10 +1,25 @@
 // The lines of the published files that belong to each table of the crate `emoji`. A property is matched by its whole
 // name. No table has the properties Emoji_Component and Extended_Pictographic. The files have no property for the
 // regional indicators: they are the Emoji lines whose comments say so.
-use crate::parse::{Line, contains, field_is, parse_line};
+use crate::parse::{DataLine, Line, LineError};
+use emoji::{EMOJI_PRESENTATION_SELECTOR, TEXT_PRESENTATION_SELECTOR};
+use std::fmt;
+use std::fmt::Write;
+
+// The properties of emoji-data.txt.
+const PROPERTIES: [&str; 6] = [
+    "Emoji",
+    "Emoji_Presentation",
+    "Emoji_Modifier",
+    "Emoji_Modifier_Base",
+    "Emoji_Component",
+    "Extended_Pictographic",
+];
+
+const REGIONAL: &[u8] = b"regional indicator";
 
 // The two files: emoji-data.txt, and emoji-variation-sequences.txt.
-#[derive(Clone, Copy)]
+#[derive(Clone, Copy, Debug, PartialEq, Eq)]
 pub enum File {
     Properties,
     Sequences,
@@ -12,7 +27,7 @@ pub enum File {
 
 // A table: a property, the regional indicators, or the characters that have a variation sequence of a style. The two
 // styles have the same characters.
-#[derive(Clone, Copy)]
+#[derive(Clone, Copy, Debug, PartialEq, Eq)]
 pub enum Table {
     Emoji,
     EmojiPresentation,
@@ -23,129 +38,91 @@ pub enum Table {
     EmojiStyle,
 }
 
-// The code points, first to last, that a line lists for a table, or none.
-#[derive(Clone, Copy)]
-pub enum Listed {
-    Points(u32, u32),
-    Nothing,
+// Tests whether a comment names regional indicators.
+fn is_regional(comment: &[u8]) -> bool {
+    comment.windows(REGIONAL.len()).any(|part| part == REGIONAL)
 }
 
-// Tests whether a line with this field lists regional indicators.
-fn is_regional(line: &[u8], field: usize) -> bool {
-    if contains(line, field, b"regional indicator") {
-        return field_is(line, field, b"Emoji");
-    }
-    false
-}
-
-// Tests whether a line with this field belongs to the table.
-fn is_of_table(line: &[u8], field: usize, table: Table) -> bool {
-    match table {
-        Table::Emoji => field_is(line, field, b"Emoji"),
-        Table::EmojiPresentation => field_is(line, field, b"Emoji_Presentation"),
-        Table::EmojiModifier => field_is(line, field, b"Emoji_Modifier"),
-        Table::EmojiModifierBase => field_is(line, field, b"Emoji_Modifier_Base"),
-        Table::RegionalIndicator => is_regional(line, field),
-        Table::TextStyle => field_is(line, field, b"text style;"),
-        Table::EmojiStyle => field_is(line, field, b"emoji style;"),
-    }
-}
-
-// Tests whether the field is a property that no table has.
-fn is_passed_over(line: &[u8], field: usize) -> bool {
-    if field_is(line, field, b"Emoji_Component") {
-        return true;
-    }
-    field_is(line, field, b"Extended_Pictographic")
-}
-
-// Tests whether the field is a property of emoji-data.txt.
-fn is_property(line: &[u8], field: usize) -> bool {
-    if is_of_table(line, field, Table::Emoji) {
-        return true;
-    }
-    if is_of_table(line, field, Table::EmojiPresentation) {
-        return true;
-    }
-    if is_of_table(line, field, Table::EmojiModifier) {
-        return true;
-    }
-    if is_of_table(line, field, Table::EmojiModifierBase) {
-        return true;
-    }
-    is_passed_over(line, field)
-}
-
-// Tests whether the field is the style that the selector `second` requests.
-fn is_style(line: &[u8], second: u32, field: usize) -> bool {
-    match second {
-        0xFE0E => is_of_table(line, field, Table::TextStyle),
-        0xFE0F => is_of_table(line, field, Table::EmojiStyle),
-        _ => false,
-    }
-}
-
-// Tests whether the line follows the format of its file.
-pub(crate) fn is_of_file(line: &[u8], file: File) -> bool {
-    match parse_line(line) {
-        Line::Blank => true,
-        Line::Comment => true,
-        Line::Range {
-            first: _,
-            last: _,
-            field,
-        } => match file {
-            File::Properties => is_property(line, field),
-            File::Sequences => false,
-        },
-        Line::Sequence {
-            first: _,
-            second,
-            field,
-        } => match file {
-            File::Properties => false,
-            File::Sequences => is_style(line, second, field),
-        },
-        Line::Bad => false,
-    }
-}
-
-// Returns the code points that the line lists for the table.
-pub(crate) fn listed_in(line: &[u8], table: Table) -> Listed {
-    match parse_line(line) {
-        Line::Range { first, last, field } => {
-            if is_of_table(line, field, table) {
-                Listed::Points(first, last)
-            } else {
-                Listed::Nothing
-            }
+impl File {
+    pub(crate) fn name(self) -> &'static str {
+        match self {
+            File::Properties => "emoji-data.txt",
+            File::Sequences => "emoji-variation-sequences.txt",
         }
-        Line::Sequence {
-            first,
-            second: _,
-            field,
-        } => {
-            if is_of_table(line, field, table) {
-                Listed::Points(first, first)
-            } else {
-                Listed::Nothing
-            }
+    }
+
+    // Tests whether the file may have a line with such code points and such a field.
+    fn allows(self, line: &DataLine<'_>) -> bool {
+        match (self, line.points.selector) {
+            (File::Properties, None) => PROPERTIES.contains(&line.field),
+            (File::Sequences, Some(TEXT_PRESENTATION_SELECTOR)) => Table::TextStyle.lists(line),
+            (File::Sequences, Some(EMOJI_PRESENTATION_SELECTOR)) => Table::EmojiStyle.lists(line),
+            _ => false,
         }
-        Line::Blank => Listed::Nothing,
-        Line::Comment => Listed::Nothing,
-        Line::Bad => Listed::Nothing,
+    }
+
+    // Parses a line of the file.
+    pub(crate) fn parse(self, line: &[u8]) -> Result<Line<'_>, LineError> {
+        match Line::parse(line)? {
+            Line::Data(line) if !self.allows(&line) => Err(LineError::UnknownField),
+            line => Ok(line),
+        }
     }
 }
 
-// Tests whether the table has ch.
-pub(crate) fn has(table: Table, ch: u32) -> bool {
-    match table {
-        Table::Emoji => emoji::is_emoji(ch),
-        Table::EmojiPresentation => emoji::is_emoji_presentation(ch),
-        Table::EmojiModifier => emoji::is_emoji_modifier(ch),
-        Table::EmojiModifierBase => emoji::is_emoji_modifier_base(ch),
-        Table::RegionalIndicator => emoji::is_ri(ch),
-        Table::TextStyle => emoji::has_variation_sequence(ch),
-        Table::EmojiStyle => emoji::has_variation_sequence(ch),
+impl Table {
+    // Returns the file that lists the table's code points.
+    pub(crate) fn file(self) -> File {
+        match self {
+            Table::TextStyle | Table::EmojiStyle => File::Sequences,
+            _ => File::Properties,
+        }
+    }
+
+    // Returns the field of the lines that belong to the table.
+    fn field(self) -> &'static str {
+        match self {
+            Table::Emoji | Table::RegionalIndicator => "Emoji",
+            Table::EmojiPresentation => "Emoji_Presentation",
+            Table::EmojiModifier => "Emoji_Modifier",
+            Table::EmojiModifierBase => "Emoji_Modifier_Base",
+            Table::TextStyle => "text style;",
+            Table::EmojiStyle => "emoji style;",
+        }
+    }
+
+    // Tests whether the line lists its code points for the table.
+    pub(crate) fn lists(self, line: &DataLine<'_>) -> bool {
+        line.field == self.field()
+            && (self != Table::RegionalIndicator || is_regional(line.comment))
+    }
+
+    // Tests whether the table has ch.
+    pub(crate) fn has(self, ch: u32) -> bool {
+        match self {
+            Table::Emoji => emoji::is_emoji(ch),
+            Table::EmojiPresentation => emoji::is_emoji_presentation(ch),
+            Table::EmojiModifier => emoji::is_emoji_modifier(ch),
+            Table::EmojiModifierBase => emoji::is_emoji_modifier_base(ch),
+            Table::RegionalIndicator => emoji::is_ri(ch),
+            Table::TextStyle | Table::EmojiStyle => emoji::has_variation_sequence(ch),
+        }
+    }
+}
+
+impl fmt::Display for File {
+    fn fmt<W: Write>(&self, f: &mut fmt::Formatter<W>) -> fmt::Result {
+        f.write_str(self.name())
+    }
+}
+
+impl fmt::Display for Table {
+    fn fmt<W: Write>(&self, f: &mut fmt::Formatter<W>) -> fmt::Result {
+        match self {
+            Table::RegionalIndicator => f.write_str("regional indicators"),
+            Table::TextStyle => f.write_str("variation sequences, text style"),
+            Table::EmojiStyle => f.write_str("variation sequences, emoji style"),
+            property => f.write_str(property.field()),
+        }
     }
 }

@@ -1,12 +1,11 @@
 -- The claims on the repaired text and on the call `repair`. proofs/Claims.antt proves each statement, under the same name in snake case.
-use Rattle.std.specs.Prelude.{◌≡◌, ◌↔◌, List, ℕ, ◌*◌, ◌^◌, ◌≤◌, ◌<◌, length, replicate}
+use Rattle.std.specs.Prelude.{◌≡◌, ◌↔◌, List, ℕ, ◌*◌, ◌^◌, ◌≤◌, ◌<◌, length, replicate, Ok, Err}
 use Rattle.base.specs.Refusals.{refusal_row, unwritten, written}
 use Rattle.base.specs.declared.Refusal.{Refusal}
 use Rattle.base.specs.declared.Refusal.TheVariants.{OutputTooShort, TextTooLong}
 use Rattle.utf8.specs.Rfc3629.{WellFormed, chars}
 use Rattle.repair.specs.Repair.{repair}
 use Rattle.repair.specs.Repaired.{Repairs, repaired, repaired_chars, replacements}
-use Rattle.repair.specs.declared.RepairAnswer.TheVariants.{Refused, Repaired}
 
 -- The claim on the repaired text.
 pub record RepairedText (s : List ℕ) : Type 0 where
@@ -35,15 +34,15 @@ ThreeTimesReached = (n : ℕ) → (length (repaired (replicate n 0xFF)) ≡ 3 * 
 -- of the output. Both values of an answer are below 2^28, and so is the value that a refusal returns. An output of 3 times the bytes taken
 -- in is always long enough.
 pub record RepairCall (text out : List ℕ) : Type 0 where
-  pub long : 16777217 ≤ length text → repair text out ≡ unwritten (Refused TextTooLong) out
+  pub long : 16777217 ≤ length text → repair text out ≡ unwritten (Err TextTooLong) out
   pub short : length text ≤ 16777216 → length out < length (repaired text)
-      → repair text out ≡ unwritten (Refused (OutputTooShort (length (repaired text)))) out
+      → repair text out ≡ unwritten (Err (OutputTooShort (length (repaired text)))) out
   pub done : length text ≤ 16777216 → length (repaired text) ≤ length out
-      → repair text out ≡ written (Repaired (length (repaired text)) (replacements text)) (repaired text) out
-  pub small : (n k : ℕ) → (repair text out).answer ≡ Repaired n k → (n < 2 ^ 28) × (k < 2 ^ 28)
-  pub small_refusal : (r : Refusal) → (repair text out).answer ≡ Refused r → (refusal_row r).value < 2 ^ 28
+      → repair text out ≡ written (Ok (record { len = length (repaired text); replaced = replacements text })) (repaired text) out
+  pub small : (n k : ℕ) → (repair text out).answer ≡ Ok (record { len = n; replaced = k }) → (n < 2 ^ 28) × (k < 2 ^ 28)
+  pub small_refusal : (r : Refusal) → (repair text out).answer ≡ Err r → (refusal_row r).value < 2 ^ 28
   pub room : length text ≤ 16777216 → 3 * length text ≤ length out
-      → (repair text out).answer ≡ Repaired (length (repaired text)) (replacements text)
+      → (repair text out).answer ≡ Ok (record { len = length (repaired text); replaced = replacements text })
 
 unfoldable pub EveryRepairCall : Type 0
 EveryRepairCall = (text out : List ℕ) → RepairCall text out

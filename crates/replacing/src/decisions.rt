@@ -5,28 +5,24 @@ ghost use Rattle.base.specs.Answers.{Answers, check_row};
 ghost use Rattle.base.specs.Refusals.{checked};
 ghost use Rattle.analysis.specs.Decisions.{bad_decision, decisions_refusal};
 
-use base::{Check, Refusal};
+use base::Refusal;
 
 // Refuses the first decision byte above 1.
-fn check_bytes(decisions: &[u8]) -> Check
+fn check_bytes(decisions: &[u8]) -> Result<(), Refusal>
     ensures { result ≡ checked (bad_decision 0 decisions.now) }
 {
-    let mut i = 0;
-    while i < decisions.len() {
-        if 1 < decisions[i] {
-            return Check::Refused(Refusal::BadDecision { index: i });
-        }
-        i += 1;
+    match decisions.iter().position(|&decision| 1 < decision) {
+        Some(index) => Err(Refusal::BadDecision { index }),
+        None => Ok(()),
     }
-    Check::Passed
 }
 
 // Tests decisions: there must be `wanted` of them, each 0 or 1.
-pub fn check_decisions(decisions: &[u8], wanted: usize) -> Check
+pub fn check_decisions(decisions: &[u8], wanted: usize) -> Result<(), Refusal>
     ensures { Answers check_row (checked (decisions_refusal wanted decisions.now)) result }
 {
     if decisions.len() != wanted {
-        return Check::Refused(Refusal::WrongNumberOfDecisions { wanted });
+        return Err(Refusal::WrongNumberOfDecisions { wanted });
     }
     check_bytes(decisions)
 }

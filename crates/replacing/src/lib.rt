@@ -15,44 +15,37 @@ ghost use Rattle.analysis.specs.ItemAt.{analysis_at};
 
 use analysis::ItemAnalysis;
 use analysis::types::Finding;
-use measure::{Measure, measure_cells};
+use measure::measure_cells;
 use policy::Policy;
 use positions::TextCount;
-use scanner::{ScanKind, ScanStep};
+use scanner::ScanKind;
 
 // The analysis of the item of a text at an offset under a policy. `before` is the count of the text before the offset.
 pub fn analyze_scan_item(text: &[u8], at: usize, before: TextCount, policy: Policy) -> ItemAnalysis
     ensures { result ≡ analysis_at policy text.now at before }
 {
-    let ScanStep::Item(item) = item_scanner::next_item(text, at, before) else {
+    let Some(item) = item_scanner::next_item(text, at, before) else {
         return ItemAnalysis::End;
     };
-    let end = item.end;
-    let kind = item.kind;
-    let char_end = item.char_end;
-    let unit_end = item.unit_end;
-    if let ScanKind::Passthrough = kind {
-        return ItemAnalysis::Canonical {
-            end,
-            char_end,
-            unit_end,
-        };
+    let canonical = ItemAnalysis::Canonical {
+        end: item.end,
+        char_end: item.char_end,
+        unit_end: item.unit_end,
+    };
+    if let ScanKind::Passthrough = item.kind {
+        return canonical;
     }
-    let Measure { counts, len: _ } = measure_cells(&text[at..end], policy);
+    let counts = measure_cells(&text[at..item.end], policy).counts;
     if counts.is_empty() {
-        return ItemAnalysis::Canonical {
-            end,
-            char_end,
-            unit_end,
-        };
+        return canonical;
     }
     ItemAnalysis::NonCanonical(Finding {
         start: at,
-        end,
+        end: item.end,
         counts,
         char_start: before.chars,
-        char_end,
+        char_end: item.char_end,
         unit_start: before.units,
-        unit_end,
+        unit_end: item.unit_end,
     })
 }

@@ -23,7 +23,7 @@ use scanner::selectors::{
 };
 
 // The result of the rules for a cell, and the offset of the cell's end.
-#[derive(Clone, Copy)]
+#[derive(Clone, Copy, Debug, PartialEq, Eq)]
 pub struct CellOutcome {
     pub outcome: Outcome,
     pub end: usize,
@@ -37,9 +37,9 @@ pub fn cell_outcome(text: &[u8], at: usize, base: u32, policy: Policy) -> CellOu
 {
     let PresentationSelectors {
         first,
-        second: _,
         count,
         end,
+        ..
     } = consume_presentation_selectors(text, at);
     let next = class_at(text, end);
     let outcome = analyze_singleton_base_selectors(base, next, first, count, policy);
@@ -47,7 +47,7 @@ pub fn cell_outcome(text: &[u8], at: usize, base: u32, policy: Policy) -> CellOu
 }
 
 // The counts of a slice, and the number of bytes of its renewed cells, which is the same under all decisions.
-#[derive(Clone, Copy)]
+#[derive(Clone, Copy, Debug, PartialEq, Eq)]
 pub struct Measure {
     pub counts: NonCanonicality,
     pub len: usize,
@@ -59,8 +59,7 @@ fn slot_len(slot: Slot) -> usize
 {
     match slot {
         Slot::Bare => 0,
-        Slot::Fixed(_) => SELECTOR_BYTES,
-        Slot::Decided(_) => SELECTOR_BYTES,
+        Slot::Fixed(_) | Slot::Decided(_) => SELECTOR_BYTES,
     }
 }
 
@@ -70,15 +69,10 @@ pub fn measure_cells(text: &[u8], policy: Policy) -> Measure
     ensures counts { result.counts ≡ total_cells policy (chars text.now) }
     ensures len { result.len ≡ capped (size width (format_cells policy (chars text.now))) }
 {
-    let PresentationSelectors {
-        first: _,
-        second: _,
-        count,
-        end: start,
-    } = consume_presentation_selectors(text, 0);
+    let PresentationSelectors { count, end, .. } = consume_presentation_selectors(text, 0);
     let mut counts = NonCanonicality::unsanctioned(count);
     let mut len = 0;
-    let mut at = start;
+    let mut at = end;
     loop {
         let packed = utf8::decode(text, at);
         if packed == 0 {
@@ -88,9 +82,8 @@ pub fn measure_cells(text: &[u8], policy: Policy) -> Measure
         let after = at + width;
         if emoji::has_variation_sequence_by_block(packed / 8) {
             let CellOutcome { outcome, end } = cell_outcome(text, after, packed / 8, policy);
-            let slot = outcome.slot;
             counts = counts.add(outcome.counts);
-            len = add_count(len, width + slot_len(slot));
+            len = add_count(len, width + slot_len(outcome.slot));
             at = end;
         } else {
             let end = selectors_end(text, after);

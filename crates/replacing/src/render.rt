@@ -5,7 +5,7 @@
 // `canonical_replacement_with_decisions` equals `replace_at` of crate analysis, specs/ItemAt.antt. It makes every test of a call
 // that takes a text, an offset and decisions. Only an item of the text scanned from its beginning counts as an item at the offset.
 ghost use Rattle.std.specs.Prelude.{◌≡◌, true, map, ◌+◌, ◌≤◌, drop, length};
-ghost use Rattle.base.specs.Answers.{EndsAs};
+ghost use Rattle.base.specs.Answers.{EndsAs, answer_row};
 ghost use Rattle.base.specs.Output.{PutAt};
 ghost use Rattle.utf8.specs.Rfc3629.{chars, encode, encode_all, is_scalar};
 ghost use Rattle.emoji.specs.Presentation.{as_selector};
@@ -13,25 +13,22 @@ ghost use Rattle.scanner.specs.Spans.{scan};
 ghost use Rattle.analysis.specs.Analysis.{chosen, decide, render};
 ghost use Rattle.analysis.specs.Cells.{cells};
 ghost use Rattle.analysis.specs.Helpers.{cell_bytes, decisions_used, starting_analysis, starts_at, write_cells};
-ghost use Rattle.analysis.specs.Decisions.{meaning, mend_row};
+ghost use Rattle.analysis.specs.Decisions.{meaning};
 ghost use Rattle.analysis.specs.ItemAt.{replace_at, replace_by_default};
 ghost use Rattle.analysis.specs.Rules.{run_with};
 
 use crate::analyze_scan_item;
 use crate::decisions::check_decisions;
-use crate::measure::{CellOutcome, Measure, cell_outcome, measure_cells};
+use crate::measure::{CellOutcome, cell_outcome, measure_cells};
 use analysis::ItemAnalysis;
 use analysis::singleton::Slot;
-use analysis::types::MendAnswer;
-use base::{Check, Refusal, TEXT_LIMIT};
-use emoji::presentation::{FromSelector, Presentation};
+use base::{Refusal, TEXT_LIMIT};
+use emoji::presentation::Presentation;
 use item_scanner::next_item;
 use policy::Policy;
 use positions::TextCount;
-use scanner::ScanStep;
-use scanner::selectors::{PresentationSelectors, consume_presentation_selectors};
+use scanner::selectors::selectors_end;
 use scanner::text_check::check_text;
-use utf8_encoding::WriteChar;
 
 // Writes a character's bytes. The caller has tested that there is room.
 fn put_char(out: &mut [u8], at: usize, ch: u32) -> usize
@@ -39,20 +36,19 @@ fn put_char(out: &mut [u8], at: usize, ch: u32) -> usize
     ensures { PutAt out.old at (encode ch) out.new result }
 {
     match utf8_encoding::write_char(ch, out, at) {
-        WriteChar::Written { width } => at + width,
-        WriteChar::TooShort { width: _ } => at,
-        WriteChar::NotScalar => at,
+        Ok(width) => at + width,
+        Err(_) => at,
     }
 }
 
 // Writes a selector's bytes, if there is a selector. The caller has tested that there is room.
-fn put_selector(out: &mut [u8], at: usize, selector: FromSelector) -> usize
+fn put_selector(out: &mut [u8], at: usize, selector: Option<Presentation>) -> usize
     requires { at + length (encode_all (map as_selector (run_with selector 1))) ≤ length out.old }
     ensures { PutAt out.old at (encode_all (map as_selector (run_with selector 1))) out.new result }
 {
     match selector {
-        FromSelector::Selector(presentation) => put_char(out, at, presentation.as_selector()),
-        FromSelector::NoSelector => at,
+        Some(presentation) => put_char(out, at, presentation.as_selector()),
+        None => at,
     }
 }
 
@@ -60,23 +56,21 @@ fn put_selector(out: &mut [u8], at: usize, selector: FromSelector) -> usize
 fn decision_at(decisions: &[u8], i: usize, default: Presentation) -> Presentation
     ensures { result ≡ decide default (map meaning (drop i decisions.now)) }
 {
-    if decisions.len() <= i {
-        return default;
+    match decisions.get(i) {
+        Some(0) => Presentation::Text,
+        Some(_) => Presentation::Emoji,
+        None => default,
     }
-    if decisions[i] == 0 {
-        return Presentation::Text;
-    }
-    Presentation::Emoji
 }
 
 // The selector that a slot holds under the decisions from an index on, if it holds one.
-fn selector_of(slot: Slot, decisions: &[u8], i: usize) -> FromSelector
+fn selector_of(slot: Slot, decisions: &[u8], i: usize) -> Option<Presentation>
     ensures { run_with result 1 ≡ chosen slot (map meaning (drop i decisions.now)) }
 {
     match slot {
-        Slot::Bare => FromSelector::NoSelector,
-        Slot::Fixed(presentation) => FromSelector::Selector(presentation),
-        Slot::Decided(default) => FromSelector::Selector(decision_at(decisions, i, default)),
+        Slot::Bare => None,
+        Slot::Fixed(presentation) => Some(presentation),
+        Slot::Decided(default) => Some(decision_at(decisions, i, default)),
     }
 }
 
@@ -95,11 +89,7 @@ fn put_cell(out: &mut [u8], at: usize, ch: u32, slot: Slot, decisions: &[u8], i:
 fn decisions_used(slot: Slot) -> usize
     ensures { result ≡ decisions_used slot }
 {
-    match slot {
-        Slot::Bare => 0,
-        Slot::Fixed(_) => 0,
-        Slot::Decided(_) => 1,
-    }
+    usize::from(matches!(slot, Slot::Decided(_)))
 }
 
 // Writes the cells of a slice with the selectors that the rules and the decisions give them. The caller has tested that there is
@@ -109,13 +99,7 @@ fn put_cells(text: &[u8], policy: Policy, decisions: &[u8], out: &mut [u8]) -> u
     ensures { PutAt out.old 0
         (encode_all (render policy (cells (chars text.now)) (map meaning decisions.now))) out.new result }
 {
-    let PresentationSelectors {
-        first: _,
-        second: _,
-        count: _,
-        end: start,
-    } = consume_presentation_selectors(text, 0);
-    let mut at = start;
+    let mut at = selectors_end(text, 0);
     let mut to = 0;
     let mut used = 0;
     loop {
@@ -134,19 +118,24 @@ fn put_cells(text: &[u8], policy: Policy, decisions: &[u8], out: &mut [u8]) -> u
 }
 
 // Writes the cells of a slice at the front of the output, if there is room. It is for callers that have the bytes of an item.
-pub fn write_cells(raw: &[u8], policy: Policy, decisions: &[u8], out: &mut [u8]) -> MendAnswer
-    ensures { EndsAs mend_row
+pub fn write_cells(
+    raw: &[u8],
+    policy: Policy,
+    decisions: &[u8],
+    out: &mut [u8],
+) -> Result<usize, Refusal>
+    ensures { EndsAs answer_row
         (write_cells policy raw.now decisions.now out.old) result out.new }
 {
     if TEXT_LIMIT < raw.len() {
-        return MendAnswer::Refused(Refusal::TextTooLong);
+        return Err(Refusal::TextTooLong);
     }
-    let Measure { counts: _, len } = measure_cells(raw, policy);
+    let len = measure_cells(raw, policy).len;
     if out.len() < len {
-        return MendAnswer::Refused(Refusal::OutputTooShort { wanted: len });
+        return Err(Refusal::OutputTooShort { wanted: len });
     }
     put_cells(raw, policy, decisions, out);
-    MendAnswer::Mended { len }
+    Ok(len)
 }
 
 // Whether an item of the text starts at an offset. The items are read from the beginning of the text.
@@ -154,7 +143,7 @@ fn item_starts_at(text: &[u8], offset: usize) -> bool
     ensures { result ≡ starts_at offset (scan text.now) }
 {
     let mut at = 0;
-    while let ScanStep::Item(item) = next_item(text, at, TextCount { chars: 0, units: 0 }) {
+    while let Some(item) = next_item(text, at, TextCount { chars: 0, units: 0 }) {
         if offset <= at {
             return at == offset;
         }
@@ -181,22 +170,16 @@ pub fn canonical_replacement_with_decisions(
     policy: Policy,
     decisions: &[u8],
     out: &mut [u8],
-) -> MendAnswer
-    ensures { EndsAs mend_row (replace_at policy text.now at decisions.now out.old) result
+) -> Result<usize, Refusal>
+    ensures { EndsAs answer_row (replace_at policy text.now at decisions.now out.old) result
         out.new }
 {
-    if let Check::Refused(refusal) = check_text(text) {
-        return MendAnswer::Refused(refusal);
-    }
+    check_text(text)?;
     let ItemAnalysis::NonCanonical(finding) = analyze_starting_item(text, at, policy) else {
-        return MendAnswer::Refused(Refusal::NoFinding);
+        return Err(Refusal::NoFinding);
     };
-    let end = finding.end;
-    let counts = finding.counts;
-    match check_decisions(decisions, counts.presentation_decisions) {
-        Check::Refused(refusal) => MendAnswer::Refused(refusal),
-        Check::Passed => write_cells(&text[at..end], policy, decisions, out),
-    }
+    check_decisions(decisions, finding.counts.presentation_decisions)?;
+    write_cells(&text[at..finding.end], policy, decisions, out)
 }
 
 // Writes the replacement of the finding that starts at an offset, with every decision at its default.
@@ -205,15 +188,12 @@ pub fn default_canonical_replacement(
     at: usize,
     policy: Policy,
     out: &mut [u8],
-) -> MendAnswer
-    ensures { EndsAs mend_row (replace_by_default policy text.now at out.old) result out.new }
+) -> Result<usize, Refusal>
+    ensures { EndsAs answer_row (replace_by_default policy text.now at out.old) result out.new }
 {
-    if let Check::Refused(refusal) = check_text(text) {
-        return MendAnswer::Refused(refusal);
-    }
+    check_text(text)?;
     let ItemAnalysis::NonCanonical(finding) = analyze_starting_item(text, at, policy) else {
-        return MendAnswer::Refused(Refusal::NoFinding);
+        return Err(Refusal::NoFinding);
     };
-    let end = finding.end;
-    write_cells(&text[at..end], policy, b"", out)
+    write_cells(&text[at..finding.end], policy, &[], out)
 }

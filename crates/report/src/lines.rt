@@ -14,7 +14,7 @@ ghost use Rattle.io.specs.Counts.{IsPrefixLen};
 
 use analysis::ItemAnalysis;
 use analysis::types::{Finding, NonCanonicality};
-use base::{Check, Refusal};
+use base::Refusal;
 use formatter::intake::intake;
 use message_io::line::LINE_ROOM;
 use policy::{POLICY_BYTES, Policy};
@@ -126,7 +126,7 @@ fn put_report(message: &[u8], policy: Policy, out: &mut [u8]) -> usize
 }
 
 // Runs the tests of a message, under the default policy.
-fn check_message(message: &[u8]) -> Check
+fn check_message(message: &[u8]) -> Result<(), Refusal>
     ensures { result ≡ checked (intake_refusal message.now (policy_bytes default_policy)) }
 {
     let mut policy = [0u8; POLICY_BYTES];
@@ -143,7 +143,7 @@ pub(crate) fn write_report(message: &[u8], out: &mut [u8; REPORT_ROOM]) -> usize
     if MESSAGE_LIMIT < message.len() {
         return put_refusal(out, Refusal::TextTooLong);
     }
-    if let Check::Refused(refusal) = check_message(message) {
+    if let Err(refusal) = check_message(message) {
         return put_refusal(out, refusal);
     }
     put_report(message, Policy::default(), out)

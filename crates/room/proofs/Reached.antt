@@ -1,4 +1,5 @@
 -- Texts of copyright signs alone take all of the room.
+use Rattle.std.specs.Prelude.{None}
 use mathlib.Core.Path.{◌≡◌, refl, ap, sym, ◌∙◌}
 use mathlib.Core.Bool.{true}
 use mathlib.Core.List.{List, []}
@@ -10,7 +11,6 @@ use Rattle.base.specs.Words.{bytes_of, little_endian, number, word_bytes}
 use Rattle.utf8.specs.Rfc3629.{all_scalar, chars, encode, encode_all, is_scalar}
 use Rattle.utf8.proofs.Texts.{chars-encode_all-alone}
 use Rattle.emoji.specs.Presentation.{from_selector, is_selector}
-use Rattle.emoji.specs.declared.presentation.FromSelector.TheVariants.{NoSelector}
 use Rattle.emoji.specs.declared.presentation.Presentation.{Presentation}
 use Rattle.emoji.specs.Tables.{in_ranges, index_of, member, next}
 use Rattle.emoji.specs.Unicode.{
@@ -85,7 +85,7 @@ signs n = replicate n 0xA9
 split-signs : (n : ℕ) → split (signs n) ≡ ([], replicate n sign)
 unfolding split add_char from_selector
 split-signs zero = refl
-split-signs (suc n) = ap (add_char 0xA9 NoSelector) (split-signs n)
+split-signs (suc n) = ap (add_char 0xA9 None) (split-signs n)
 
 -- Each sign gets a selector, whether another sign follows or nothing.
 slot-sign : (n : ℕ) → slot_at default_policy sign (replicate n sign) ≡ 3

@@ -1,5 +1,5 @@
--- An arm of a match on a class, a state or a run kind: a property of each variant that the arm names holds where the arm is taken.
-use mathlib.Core.Path.{◌≡◌, refl, ap, sym, ◌∙◌}
+-- An arm of a match on a class: a property of each class that the arm names holds where the arm is taken.
+use mathlib.Core.Path.{◌≡◌, refl}
 use mathlib.Core.Bool.{Bool, true, false}
 use mathlib.Core.List.{List}
 use Prim.Native.Nat.{ℕ}
@@ -7,11 +7,7 @@ use types.Run.{OneOf, miss}
 use mir.Val.{has_key}
 use denote.Enum.Declared.{tag_of}
 use Rattle.scanner.specs.contracts.char_class.Class.{the_type as the_class}
-use Rattle.scanner.specs.RunKinds.{in_run}
-use Rattle.scanner.specs.declared.char_runs.RunKind.{RunKind}
-use Rattle.scanner.specs.contracts.state.State.{the_type as the-state}
 use Rattle.scanner.specs.Classes.{Class, selector, link, ri, modifier, emoji, keycap, tag, other}
-use Rattle.scanner.specs.Items.{State, plain, selectors, links, one_ri, unit, joined, left_over}
 
 -- The property X, if the arm names the variant; otherwise nothing is to be shown.
 abbrev pub When : Bool → Type 0 → Type 0
@@ -41,25 +37,3 @@ class_arm ks P e emoji h = named ks 4 (P emoji) e.4 h
 class_arm ks P e keycap h = named ks 5 (P keycap) e.5 h
 class_arm ks P e tag h = named ks 6 (P tag) e.6 h
 class_arm ks P e other h = named ks 7 (P other) e.7 h
-
--- ---- a match on a state
-
-abbrev pub OfStates : List ℕ → (State → Type 0) → Type 0
-OfStates ks P =
-    When (has_key ks 0) (P plain) × When (has_key ks 1) (P selectors) × When (has_key ks 2) (P links) × When (has_key ks 3) (P one_ri)
-    × When (has_key ks 4) (P unit) × When (has_key ks 5) (P joined) × When (has_key ks 6) (P left_over)
-
-pub state_arm : (ks : List ℕ) (P : State → Type 0) → OfStates ks P → (p : State) → OneOf ks (tag_of the-state p) → P p
-state_arm ks P e plain h = named ks 0 (P plain) e.0 h
-state_arm ks P e selectors h = named ks 1 (P selectors) e.1 h
-state_arm ks P e links h = named ks 2 (P links) e.2 h
-state_arm ks P e one_ri h = named ks 3 (P one_ri) e.3 h
-state_arm ks P e unit h = named ks 4 (P unit) e.4 h
-state_arm ks P e joined h = named ks 5 (P joined) e.5 h
-state_arm ks P e left_over h = named ks 6 (P left_over) e.6 h
-
--- ---- a match on a run kind and then on a class
-
-pub run_arm : (ks : List ℕ) (q : RunKind) (b : Bool) → OfClasses ks (λ k. b ≡ in_run q k) → (r : RunKind) (k : Class) → r ≡ q
-    → OneOf ks (tag_of the_class k) → b ≡ in_run r k
-run_arm ks q b h r k e o = class_arm ks (λ k. b ≡ in_run q k) h k o ∙ ap (λ (x : RunKind). in_run x k) (sym e)

@@ -1,4 +1,5 @@
 -- The proof of each statement of specs/Theorems.antt.
+use Rattle.std.specs.Prelude.{None}
 use mathlib.Core.Path.{◌≡◌, refl, ap, sym, ◌∙◌, subst}
 use mathlib.Core.Logic.{◌↔◌, inr}
 use mathlib.Core.Bool.{true}
@@ -71,7 +72,6 @@ use Rattle.scanner.specs.Theorems.{
   TagExamples,
 }
 use Rattle.scanner.specs.declared.ScanKind.{ScanKind}
-use Rattle.scanner.specs.declared.ScanStep.TheVariants.{End}
 use Rattle.scanner.proofs.Bytes.{chars_inside}
 use Rattle.scanner.proofs.ClassTests.{run-links, run_modifications, run_passthrough, run_selectors, run_tags}
 use Rattle.scanner.proofs.Complete.{all_complete_means}
@@ -211,7 +211,7 @@ pub cursor_ends : CursorEnds
 unfolding CursorEnds scan_at scan_from spans items first_of
 cursor_ends text at before = (go (chars (drop at text)), λ e. ap (λ (t : List ℕ). first_of (spans at before (items t))) e)
   where
-    go : (t : List ℕ) → first_of (spans at before (items t)) ≡ End → t ≡ []
+    go : (t : List ℕ) → first_of (spans at before (items t)) ≡ None → t ≡ []
     go [] e = refl
     go (c ∷ t) e = cc
 

@@ -1,6 +1,6 @@
 -- The automaton accepts what the grammar derives: `derive_walk`.
+use Rattle.std.specs.Prelude.{Some}
 use mathlib.Core.Path.{◌≡◌, refl, ap, sym, ◌∙◌, subst}
-use mathlib.Core.Option.{some}
 use mathlib.Core.List.{List, ◌∷◌, ◌++◌}
 use Prim.Native.Nat.{ℕ}
 use Rattle.scanner.specs.Classes.{Class, selector, link, ri, modifier, emoji, class_of}
@@ -74,10 +74,10 @@ pub data InUnit : State → Type 0 where
   in_unit_lem : InUnit unit
 
 -- A walk whose first character has the class k.
-pub via : {p q r : State} {k : Class} {c : ℕ} {t : List ℕ} → HasClass c k → transition p k ≡ some q → Walk q t r → Walk p (c ∷ t) r
+pub via : {p q r : State} {k : Class} {c : ℕ} {t : List ℕ} → HasClass c k → transition p k ≡ Some q → Walk q t r → Walk p (c ∷ t) r
 via {p = p} h f w = pass (ap (transition p) (class_is h) ∙ f) w
 
-pub walk_S : {s : List ℕ} (p : State) → transition p selector ≡ some p → S s → Walk p s p
+pub walk_S : {s : List ℕ} (p : State) → transition p selector ≡ Some p → S s → Walk p s p
 walk_S p e no_selectors = stay
 walk_S p e (selector_and f h) = via (is_selector_lem f) e (walk_S p e h)
 
@@ -164,7 +164,7 @@ walk_unit h (unit_of s m) =
 
 -- The state after one link and a character of the class.
 abbrev pub AfterLink : Class → State → Type 0
-AfterLink k p = transition joined k ≡ some p
+AfterLink k p = transition joined k ≡ Some p
 
 pub after : Starts AfterLink
 unfolding transition
@@ -183,7 +183,7 @@ first = record { at_ri = refl; at_modifier = refl; at_emoji = refl }
 
 -- ---- links and joined units
 
-pub to_joined : (p : State) → InUnit p → transition p link ≡ some joined
+pub to_joined : (p : State) → InUnit p → transition p link ≡ Some joined
 unfolding transition
 to_joined one_ri in_one_ri = refl
 to_joined unit in_unit_lem = refl
@@ -193,7 +193,7 @@ to_joined links x3 = elim x3 [ ]
 to_joined joined x4 = elim x4 [ ]
 to_joined left_over x5 = elim x5 [ ]
 
-pub walk_link : {s : List ℕ} {p : State} (q : State) → transition p link ≡ some q → transition q selector ≡ some q → Link s → Walk p s q
+pub walk_link : {s : List ℕ} {p : State} (q : State) → transition p link ≡ Some q → transition q selector ≡ Some q → Link s → Walk p s q
 walk_link q e f (a_link s) = via (is_link refl) e (walk_S q f s)
 
 pub walk_joined : {s : List ℕ} {p : State} → InUnit p → JoinedUnits s → ToUnit p s
@@ -215,7 +215,7 @@ pub record SomeWalk (p : State) (s : List ℕ) : Type 0 where
   pub walked : Walk p s end
 
 -- A walk over links from a state to which links and selectors lead back.
-pub walk_links : {s : List ℕ} (p : State) → transition p link ≡ some p → transition p selector ≡ some p → Links s → Walk p s p
+pub walk_links : {s : List ℕ} (p : State) → transition p link ≡ Some p → transition p selector ≡ Some p → Links s → Walk p s p
 walk_links p e f no_links = stay
 walk_links p e f (link_and a l) = walk_append (walk_link p e f a) (walk_links p e f l)
 
@@ -244,7 +244,7 @@ plain_front h of_keycap w = front h refl w
 plain_front h of_tag w = front h refl w
 plain_front h of_other w = front h refl w
 
-plain_on_lem : {k : Class} → PlainClass k → transition plain k ≡ some plain
+plain_on_lem : {k : Class} → PlainClass k → transition plain k ≡ Some plain
 unfolding transition
 plain_on_lem of_keycap = refl
 plain_on_lem of_tag = refl

@@ -1,8 +1,8 @@
 -- Emoji-headed items by the runs at the front of a text: the first unit of an item.
+use Rattle.std.specs.Prelude.{Some, None, Option}
 use mathlib.Core.Path.{◌≡◌, refl, ap, ap₂, sym, ◌∙◌, subst}
 use mathlib.Core.Logic.{⊎_elim}
 use mathlib.Core.Bool.{Bool, true, false, cond, ◌||◌, true≢false}
-use mathlib.Core.Option.{Option, none, some}
 use mathlib.Core.List.{List, [], ◌∷◌, ◌++◌, append_assoc, append-nil}
 use Prim.Native.Nat.{ℕ}
 use native.Mathlib.Omega.{arith}
@@ -58,7 +58,7 @@ use Rattle.scanner.proofs.ItemRuns.{walk_passes}
 
 -- ---- modifications after a stem
 
-modification_on : (c : ℕ) → is_modification c ≡ true → transition unit (class_of c) ≡ some unit
+modification_on : (c : ℕ) → is_modification c ≡ true → transition unit (class_of c) ≡ Some unit
 unfolding transition is_modification
 modification_on c e =
     ⊎_elim (λ m. ap (transition unit) (class_is (is_modifier m)))
@@ -67,7 +67,7 @@ modification_on c e =
     (either_true _ _ o))
     (either_true _ _ e)
 
-modifications_on : (c : ℕ) → in_modifications c ≡ true → transition unit (class_of c) ≡ some unit
+modifications_on : (c : ℕ) → in_modifications c ≡ true → transition unit (class_of c) ≡ Some unit
 unfolding transition
 modifications_on c e = ⊎_elim (modification_on c) (λ s. ap (transition unit) (class_selector c s))
     (either_true (is_modification c) (is_selector c) e)
@@ -100,7 +100,7 @@ unit_not_one_ri : unit ≡ one_ri → ⊥
 unit_not_one_ri e = let z : ◌≡◌ {A = ℕ} 0 1 = cc in omega arith
 
 stem_single : {c : ℕ} {t : List ℕ} {p : State} → is_emoji c ≡ true → stem_at (c ∷ t) ≡ c ∷ (selectors_at t ++ []) → InUnit p
-    → transition p selector ≡ some p → start_state (class_of c) ≡ p
+    → transition p selector ≡ Some p → start_state (class_of c) ≡ p
     → (p ≡ one_ri → Stops is_ri (after_selectors t)) → StemRead c t
 stem_single {c} {t} {p} d e i s b n = record {
   tail = selectors_at t;
@@ -190,8 +190,8 @@ split_from-transition : (p q : State) (c : ℕ) (t : List ℕ) → transition p 
 split_from-transition p q c t e = go (transition q (class_of c)) refl
   where
     go : (o : Option State) → transition q (class_of c) ≡ o → split_from p (c ∷ t) ≡ split_from q (c ∷ t)
-    go (some r) f = split_from-some p r c t (e ∙ f) ∙ sym (split_from-some q r c t f)
-    go none f = split_from-none p c t (e ∙ f) ∙ sym (split_from-none q c t f)
+    go (Some r) f = split_from-some p r c t (e ∙ f) ∙ sym (split_from-some q r c t f)
+    go None f = split_from-none p c t (e ∙ f) ∙ sym (split_from-none q c t f)
 
 same-transition : {c : ℕ} {k : Class} → HasClass c k → is_selector c ≡ false → is_ri c ≡ false → transition one_ri k ≡ transition unit k
 unfolding transition

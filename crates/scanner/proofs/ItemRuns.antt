@@ -1,7 +1,7 @@
 -- Items by the runs at the front of a text: selectors, links and passthrough.
+use Rattle.std.specs.Prelude.{Some, None}
 use mathlib.Core.Path.{◌≡◌, refl, ap, sym, ◌∙◌, subst}
 use mathlib.Core.Bool.{Bool, true, false, cond, ◌||◌, true≢false}
-use mathlib.Core.Option.{none, some}
 use mathlib.Core.List.{List, [], ◌∷◌, ◌++◌, append-nil}
 use Prim.Native.Nat.{ℕ}
 use lib.Dec.{eqb}
@@ -38,12 +38,12 @@ use Rattle.scanner.proofs.Runs.{Passes, all_pass, pass-and, run-after, run-passe
 
 -- ---- a state to which every character of a run leads back
 
-module _ (p : State) (f : ℕ → Bool) (on : (c : ℕ) → f c ≡ true → transition p (class_of c) ≡ some p) where
+module _ (p : State) (f : ℕ → Bool) (on : (c : ℕ) → f c ≡ true → transition p (class_of c) ≡ Some p) where
   pub walk_passes : {s : List ℕ} → Passes f s → Walk p s p
   walk_passes all_pass = stay
   walk_passes (pass-and {c = c} e h) = pass (on c e) (walk_passes h)
 
-  module _ (off : (c : ℕ) → f c ≡ false → transition p (class_of c) ≡ none) where
+  module _ (off : (c : ℕ) → f c ≡ false → transition p (class_of c) ≡ None) where
     split_from-stops : {t : List ℕ} → Stops f t → (split_from p t).0 ≡ []
     unfolding split_from
     split_from-stops at_end = refl
@@ -57,11 +57,11 @@ module _ (p : State) (f : ℕ → Bool) (on : (c : ℕ) → f c ≡ true → tra
 
 -- ---- selectors, links, passthrough
 
-selectors_on : (c : ℕ) → is_selector c ≡ true → transition selectors (class_of c) ≡ some selectors
+selectors_on : (c : ℕ) → is_selector c ≡ true → transition selectors (class_of c) ≡ Some selectors
 unfolding transition
 selectors_on c e = ap (transition selectors) (class_selector c e)
 
-selectors_off : {c : ℕ} {k : Class} → HasClass c k → is_selector c ≡ false → transition selectors k ≡ none
+selectors_off : {c : ℕ} {k : Class} → HasClass c k → is_selector c ≡ false → transition selectors k ≡ None
 unfolding transition
 selectors_off (is_selector_lem s) e = absurd (true≢false (sym s ∙ e))
 selectors_off (is_link s) e = refl
@@ -72,15 +72,15 @@ selectors_off (is_modifier s) e = refl
 selectors_off (is_emoji_lem s r m) e = refl
 selectors_off (is_other s k t) e = refl
 
-pub links-on : (p : State) → transition p selector ≡ some p → transition p link ≡ some p → (c : ℕ) → in_links c ≡ true
-    → transition p (class_of c) ≡ some p
+pub links-on : (p : State) → transition p selector ≡ Some p → transition p link ≡ Some p → (c : ℕ) → in_links c ≡ true
+    → transition p (class_of c) ≡ Some p
 links-on p s l c e = go (eqb c 0x200D) refl
   where
-    go : (b : Bool) → eqb c 0x200D ≡ b → transition p (class_of c) ≡ some p
+    go : (b : Bool) → eqb c 0x200D ≡ b → transition p (class_of c) ≡ Some p
     go true f = ap (transition p) (class_link c f) ∙ l
     go false f = ap (transition p) (class_selector c (sym (ap (λ (b : Bool). b || is_selector c) f) ∙ e)) ∙ s
 
-pub links_off : {c : ℕ} {k : Class} → HasClass c k → in_links c ≡ false → (transition links k ≡ none) × (transition left_over k ≡ none)
+pub links_off : {c : ℕ} {k : Class} → HasClass c k → in_links c ≡ false → (transition links k ≡ None) × (transition left_over k ≡ None)
 unfolding transition
 links_off {c} (is_selector_lem s) e = absurd (true≢false (sym (either-right (eqb c 0x200D) (is_selector c) s) ∙ e))
 links_off {c} (is_link s) e = absurd (true≢false (sym (either_left (eqb c 0x200D) (is_selector c) (eq-eqb c 0x200D s)) ∙ e))
@@ -94,7 +94,7 @@ links_off (is_other s k t) e = (refl, refl)
 is_passthrough_lem : {c : ℕ} → Plain c → is_passthrough c ≡ true
 is_passthrough_lem p = simp (p.no_selector, p.no_link, p.no_emoji)
 
-passthrough_off : {c : ℕ} {k : Class} → HasClass c k → is_passthrough c ≡ false → transition plain k ≡ none
+passthrough_off : {c : ℕ} {k : Class} → HasClass c k → is_passthrough c ≡ false → transition plain k ≡ None
 unfolding transition
 passthrough_off (is_selector_lem s) e = refl
 passthrough_off (is_link s) e = refl
@@ -105,7 +105,7 @@ passthrough_off (is_modifier s) e = refl
 passthrough_off (is_emoji_lem s r m) e = refl
 passthrough_off (is_other s k t) e = absurd (true≢false (sym (is_passthrough_lem s) ∙ e))
 
-passthrough_on : {c : ℕ} {k : Class} → HasClass c k → is_passthrough c ≡ true → transition plain k ≡ some plain
+passthrough_on : {c : ℕ} {k : Class} → HasClass c k → is_passthrough c ≡ true → transition plain k ≡ Some plain
 unfolding transition is_selector
 passthrough_on {c} (is_selector_lem s) e = absurd (true≢false
     (sym (either_left (is_selector c) (eqb c 0x200D || is_emoji c) s) ∙ not-true _ e))
@@ -151,5 +151,5 @@ item_passthrough c t e =
     (λ d f. passthrough_off (has_class d) f) t)
     ∙ sym (run_true is_passthrough c t e)
   where
-    go : (k : Class) → transition plain k ≡ some plain → start_state k ≡ plain
+    go : (k : Class) → transition plain k ≡ Some plain → start_state k ≡ plain
     go k f = (plain_transition k plain f).1

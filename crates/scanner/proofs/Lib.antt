@@ -14,7 +14,6 @@ pub mod Bytes
 pub mod ItemAt
 pub mod Spans
 pub mod Positions
-pub mod Equal
 pub mod Runs
 pub mod Modifications
 pub mod Units

@@ -1,4 +1,5 @@
 -- What the result of `peek_at` says of a text at an offset. Every function that reads a character uses these laws.
+use Rattle.std.specs.Prelude.{Some, None}
 use mathlib.Core.Path.{◌≡◌, refl, ap, ap₂, sym, ◌∙◌}
 use mathlib.Core.Bool.{Bool, true≢false}
 use mathlib.Core.List.{List, [], ◌∷◌}
@@ -12,8 +13,8 @@ use Rattle.utf8.proofs.Places as Places
 use Rattle.utf8.proofs.Texts.{valid_up_to_le}
 use Rattle.scanner.specs.Classes.{Class, class_of}
 use Rattle.scanner.specs.Peek.{peek_at}
+use Rattle.scanner.specs.declared.char_class.Peeked.{Peeked}
 use Rattle.scanner.specs.Spans.{size, width}
-use Rattle.scanner.specs.declared.char_class.Peeked.TheVariants.{Char, NoChar}
 use Rattle.scanner.proofs.Arms.{OfClasses, class_arm}
 use Rattle.scanner.specs.contracts.char_class.Class.{the_type as the_class}
 use Rattle.scanner.proofs.Bytes.{chars-from, size-chars, width_some}
@@ -30,27 +31,33 @@ pub record Seen (text : List ℕ) (at v : ℕ) (k : Class) (next : ℕ) : Type 0
 pub record Unseen (text : List ℕ) (at : ℕ) : Type 0 where
   pub chars_none : chars (drop at text) ≡ []
 
+-- The character v of class k that ends at n.
+abbrev pub found : ℕ → Class → ℕ → Peeked
+found v k n = record { value = v; class = k; end = n }
+
 module _ (text : List ℕ) (at : ℕ) where
   -- The value that the code returns: for a character that it decoded, and where it decoded none.
-  pub peeked : (v w : ℕ) (k : Class) → Places.Step text at v w → k ≡ class_of v → Char v k (at + w) ≡ peek_at at (chars (drop at text))
+  pub peeked : (v w : ℕ) (k : Class) → Places.Step text at v w → k ≡ class_of v
+      → Some (found v k (at + w)) ≡ peek_at at (chars (drop at text))
   unfolding peek_at width
-  peeked v w k h e = ap₂ (λ (x : Class) (n : ℕ). Char v x (at + n)) e (sym h.width) ∙ ap (peek_at at) (sym h.chars_on)
+  peeked v w k h e = ap₂ (λ (x : Class) (n : ℕ). Some (found v x (at + n))) e (sym h.width) ∙ ap (peek_at at) (sym h.chars_on)
 
-  pub not_peeked : Places.Stop text at → NoChar ≡ peek_at at (chars (drop at text))
+  pub not_peeked : Places.Stop text at → None ≡ peek_at at (chars (drop at text))
   unfolding peek_at
   not_peeked h = ap (peek_at at) (sym h.chars_none)
 
   -- What a caller knows from that value.
-  pub seen : {v : ℕ} {k : Class} {next : ℕ} → peek_at at (chars (drop at text)) ≡ Char v k next → Seen text at v k next
+  pub seen : {v : ℕ} {k : Class} {next : ℕ} → peek_at at (chars (drop at text)) ≡ Some (found v k next) → Seen text at v k next
   unfolding peek_at
   seen {v} {k} {next} e = go (chars (drop at text)) refl e
     where
-      go : (t : List ℕ) → chars (drop at text) ≡ t → peek_at at t ≡ Char v k next → Seen text at v k next
+      go : (t : List ℕ) → chars (drop at text) ≡ t → peek_at at t ≡ Some (found v k next) → Seen text at v k next
       go [] p q = absurd (true≢false (cc))
       go (c ∷ t) p q =
-          let x : c ≡ v = cc in
-          let y : k ≡ class_of c = cc in
-          let n : next ≡ at + width c = cc in
+          let z : found v k next ≡ found c (class_of c) (at + width c) = cc in
+          let x : c ≡ v = ap (λ (p : Peeked). p.value) (sym z) in
+          let y : k ≡ class_of c = ap (λ (p : Peeked). p.class) z in
+          let n : next ≡ at + width c = ap (λ (p : Peeked). p.end) z in
           let m : next ≡ at + size width (c ∷ []) = omega (arith, n) in
           let d : chars (drop next text) ≡ t = ap (λ (i : ℕ). chars (drop i text)) m ∙ chars-from text at (c ∷ []) t p in
           let b : width c + size width t ≡ valid_up_to_of (drop at text) = ap (size width) (sym p) ∙ size-chars (drop at text) in
@@ -62,11 +69,11 @@ module _ (text : List ℕ) (at : ℕ) where
             room = omega (arith, n, b, width_some c, valid_up_to_le (drop at text), length-drop at text);
           }
 
-  pub unseen : peek_at at (chars (drop at text)) ≡ NoChar → Unseen text at
+  pub unseen : peek_at at (chars (drop at text)) ≡ None → Unseen text at
   unfolding peek_at
   unseen e = record { chars_none = go (chars (drop at text)) e }
     where
-      go : (t : List ℕ) → peek_at at t ≡ NoChar → t ≡ []
+      go : (t : List ℕ) → peek_at at t ≡ None → t ≡ []
       go [] q = refl
       go (c ∷ t) q = cc
 

@@ -1,7 +1,7 @@
 -- The items of a text are its only reading by the grammar: `reading` and `only-reading`.
+use Rattle.std.specs.Prelude.{Some, None, Option}
 use mathlib.Core.Path.{◌≡◌, refl, ap, sym, ◌∙◌, subst, ap₂}
 use mathlib.Core.Logic.{◌⊎◌, ⊎_elim}
-use mathlib.Core.Option.{Option, none, some}
 use mathlib.Core.Bool.{true}
 use mathlib.Core.List.{List, [], ◌∷◌, ◌++◌, append-nil, head-eq_of_cons-eq, tail-eq_of_cons-eq, Memᴰ}
 use Prim.Native.Nat.{ℕ}
@@ -53,18 +53,18 @@ use Rattle.scanner.proofs.WalksDerive.{walk_derive}
 
 -- ---- an item is the longest that the grammar derives
 
-walk_stops : {p q r : State} {s : List ℕ} (d : ℕ) (t : List ℕ) → Walk p s q → transition q (class_of d) ≡ none → Walk p (s ++ d ∷ t) r → ⊥
+walk_stops : {p q r : State} {s : List ℕ} (d : ℕ) (t : List ℕ) → Walk p s q → transition q (class_of d) ≡ None → Walk p (s ++ d ∷ t) r → ⊥
 walk_stops d t stay e (pass f v) = let z : ◌≡◌ {A = ℕ} 0 1 = cc in omega arith
 walk_stops {r = r} d t (pass {q = x} {t = s} e w) f (pass {q = y} g v) =
     let z : y ≡ x = cc in
     walk_stops d t w f (subst (λ (p : State). Walk p (s ++ d ∷ t) r) z v)
 
 pub longest : {k : ScanKind} {q : State} (c : ℕ) {s : List ℕ} (d : ℕ) (t : List ℕ) → Walk (start_state (class_of c)) s q
-    → transition q (class_of d) ≡ none → Derives k (c ∷ (s ++ d ∷ t)) → ⊥
+    → transition q (class_of d) ≡ None → Derives k (c ∷ (s ++ d ∷ t)) → ⊥
 longest c d t w e h = walk_stops d t w e (accepted_walk (derive_walk h)).walked
 
 first-longest : {q : State} (c : ℕ) (s r : List ℕ) (k : ScanKind) → Walk (start_state (class_of c)) s q
-    → ((d : ℕ) (f : List ℕ) → r ≡ d ∷ f → transition q (class_of d) ≡ none)
+    → ((d : ℕ) (f : List ℕ) → r ≡ d ∷ f → transition q (class_of d) ≡ None)
     → Longest (record { kind = k; chars = c ∷ s }) r
 unfolding Longest
 first-longest c s r k w h j d f g e = longest c d f w (h d (f ++ g) e)
@@ -75,7 +75,7 @@ first-longest c s r k w h j d f g e = longest c d f w (h d (f ++ g) e)
 record Read (p : State) (t : List ℕ) : Type 0 where
   end : State
   walked : Walk p (split_from p t).0 end
-  stops : (d : ℕ) (f : List ℕ) → join (split_from p t).1 ≡ d ∷ f → transition end (class_of d) ≡ none
+  stops : (d : ℕ) (f : List ℕ) → join (split_from p t).1 ≡ d ∷ f → transition end (class_of d) ≡ None
   reads : Reads (join (split_from p t).1) (split_from p t).1
 
 read_first : (c : ℕ) (t : List ℕ) → Read (start_state (class_of c)) t → Reads (join (first c t ∷ after c t)) (first c t ∷ after c t)
@@ -87,14 +87,14 @@ split_from-read p [] = record { end = p; walked = stay; stops = λ d f e. cc; re
 split_from-read p (c ∷ t) = go (transition p (class_of c)) refl (λ q. split_from-read q t)
   where
     go : (o : Option State) → transition p (class_of c) ≡ o → ((q : State) → Read q t) → Read p (c ∷ t)
-    go (some q) e h = record {
+    go (Some q) e h = record {
       end = (h q).end;
       walked = rw (split_from-some p q c t e) (pass e (h q).walked);
       stops = rw (split_from-some p q c t e)
           (h q).stops;
       reads = rw (split_from-some p q c t e) (h q).reads;
     }
-    go none e h = record {
+    go None e h = record {
       end = p;
       walked = rw (split_from-none p c t e) stay;
       stops = rw (split_from-none p c t e) (λ d f z. cc);

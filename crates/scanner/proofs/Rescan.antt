@@ -1,8 +1,8 @@
 -- A scan of the characters of items that stand in a row gives the same items that pass a test, at the same starts, if no
 -- passthrough passes the test.
+use Rattle.std.specs.Prelude.{Some, None, Option}
 use mathlib.Core.Path.{◌≡◌, refl, ap, sym, ◌∙◌, subst}
 use mathlib.Core.Bool.{Bool, true, false, cond, true≢false}
-use mathlib.Core.Option.{Option, none, some}
 use mathlib.Core.List.{List, [], ◌∷◌, ◌++◌, append-nil}
 use Prim.Native.Nat.{ℕ, ◌+◌}
 use native.Mathlib.Omega.{arith}
@@ -48,7 +48,7 @@ module _ (test : Item → Bool) (w : ℕ → ℕ) (plain-fails : (x : Item) → 
   abbrev next : Item → List Item → State → ℕ → List ℕ → Item
   next x xs q c s = record { kind = x.kind; chars = c ∷ (s ++ (split_from q (join xs)).0) }
 
-  split_from-next : (p : State) {q : State} (x : Item) (xs : List Item) (c : ℕ) (s : List ℕ) → transition p (class_of c) ≡ none → x.kind
+  split_from-next : (p : State) {q : State} (x : Item) (xs : List Item) (c : ℕ) (s : List ℕ) → transition p (class_of c) ≡ None → x.kind
       ≡ kind_of (start_state (class_of c)) → x.chars ≡ c ∷ s → Walk (start_state (class_of c)) s q
       → split_from p (join (x ∷ xs)) ≡ ([], next x xs q c s ∷ (split_from q (join xs)).1)
   split_from-next p {q} x xs c s e k l wk =
@@ -76,7 +76,7 @@ module _ (test : Item → Bool) (w : ℕ → ℕ) (plain-fails : (x : Item) → 
       ∙ found-tail test w n x R.1 xs (ap (λ (m : ℕ). found test w m R.1) (sym a) ∙ h.same (n + size w x.chars))
 
   -- The case in which the scan begins a new item at x.
-  again_none : {p q : State} {x : Item} {xs : List Item} (c : ℕ) (s : List ℕ) → transition p (class_of c) ≡ none → x.kind
+  again_none : {p q : State} {x : Item} {xs : List Item} (c : ℕ) (s : List ℕ) → transition p (class_of c) ≡ None → x.kind
       ≡ kind_of (start_state (class_of c)) → x.chars ≡ c ∷ s → Walk (start_state (class_of c)) s q → Again q xs → Again p (x ∷ xs)
   again_none {p} {q} {x} {xs} c s e k l wk h = record {
     same = λ n. rw (split_from-next p x xs c s e k l wk) (go (is_plain (start_state (class_of c))) refl n);
@@ -92,7 +92,7 @@ module _ (test : Item → Bool) (w : ℕ → ℕ) (plain-fails : (x : Item) → 
       go false i n = rw (add-zero n) (again_not_plain x c s l (h.whole (sym (walk_plain wk) ∙ i)) h n)
 
   -- The case in which the passthrough before x goes on with x.
-  again_some : {q : State} {x : Item} {xs : List Item} (c : ℕ) (s : List ℕ) (r : State) → transition plain (class_of c) ≡ some r → x.kind
+  again_some : {q : State} {x : Item} {xs : List Item} (c : ℕ) (s : List ℕ) (r : State) → transition plain (class_of c) ≡ Some r → x.kind
       ≡ kind_of (start_state (class_of c)) → x.chars ≡ c ∷ s → Walk (start_state (class_of c)) s q → Again q xs → Again plain (x ∷ xs)
   unfolding kind_of
   again_some {q} {x} {xs} c s r e k l wk h =
@@ -106,8 +106,8 @@ module _ (test : Item → Bool) (w : ℕ → ℕ) (plain-fails : (x : Item) → 
 
   again_both : {q : State} {x : Item} {xs : List Item} (c : ℕ) (s : List ℕ) (o : Option State) → transition plain (class_of c) ≡ o → x.kind
       ≡ kind_of (start_state (class_of c)) → x.chars ≡ c ∷ s → Walk (start_state (class_of c)) s q → Again q xs → Again plain (x ∷ xs)
-  again_both c s none e = again_none c s e
-  again_both c s (some r) e = again_some c s r e
+  again_both c s None e = again_none c s e
+  again_both c s (Some r) e = again_some c s r e
 
   pub rescan : {p : State} {xs : List Item} → Chain p xs → Again p xs
   unfolding split_from found
@@ -125,8 +125,8 @@ module _ (test : Item → Bool) (w : ℕ → ℕ) (plain-fails : (x : Item) → 
     where
       go : (o : Option State) → transition plain (class_of c) ≡ o
           → found test w n (first c t ∷ after c t) ≡ found test w (n + size w (split_from plain (c ∷ t)).0) (split_from plain (c ∷ t)).1
-      go none e = rw (split_from-none plain c t e) (ap (λ (m : ℕ). found test w m (first c t ∷ after c t)) (sym (add-zero n)))
-      go (some q) e =
+      go None e = rw (split_from-none plain c t e) (ap (λ (m : ℕ). found test w m (first c t ∷ after c t)) (sym (add-zero n)))
+      go (Some q) e =
           let b = plain_transition (class_of c) q e in
           found_skip n (first c t) (after c t) (ap kind_of b.1)
           ∙ ap (λ (p : State). found test w (n + size w (c ∷ (split_from p t).0)) (split_from p t).1) (b.1 ∙ sym b.0)

@@ -1,8 +1,8 @@
 -- The rest of an emoji-headed item after a unit, by the runs at its front: it is empty, or a link and a unit, or the links left
 -- over.
+use Rattle.std.specs.Prelude.{Some, None}
 use mathlib.Core.Path.{◌≡◌, refl, ap, ap₂, sym, ◌∙◌}
 use mathlib.Core.Bool.{Bool, true, false, ◌||◌, true≢false}
-use mathlib.Core.Option.{none, some}
 use mathlib.Core.List.{List, [], ◌∷◌, ◌++◌}
 use Prim.Native.Nat.{ℕ}
 use lib.Dec.{eqb}
@@ -53,7 +53,7 @@ use Rattle.scanner.proofs.Runs.{
 }
 use Rattle.scanner.proofs.ItemRuns.{split_from-run, links_off, links-on}
 
-unit_off : {c : ℕ} {k : Class} → HasClass c k → in_modifications c ≡ false → eqb c 0x200D ≡ false → transition unit k ≡ none
+unit_off : {c : ℕ} {k : Class} → HasClass c k → in_modifications c ≡ false → eqb c 0x200D ≡ false → transition unit k ≡ None
 unfolding transition is_modification
 unit_off {c} (is_selector_lem s) e f = absurd (true≢false (sym (either-right (is_modification c) (is_selector c) s) ∙ e))
 unit_off {c} (is_link s) e f = absurd (true≢false (sym (eq-eqb c 0x200D s) ∙ f))
@@ -87,7 +87,7 @@ split_from_link t =
     (ap (split_from joined) (sym (run-after is_selector t)) ∙ split_from_walk (walk_S joined refl (passes_S (run-passes is_selector t)))
     (after_selectors t))
 
-joined-on : {c : ℕ} → EmojiClass c → transition joined (class_of c) ≡ some (start_state (class_of c))
+joined-on : {c : ℕ} → EmojiClass c → transition joined (class_of c) ≡ Some (start_state (class_of c))
 unfolding transition start_state
 joined-on (an_ri r) = rw (class_is (is_ri_lem r))
 joined-on (a_modifier m) = rw (class_is (is_modifier m))
@@ -105,7 +105,7 @@ unit_joins t c u e f =
 
 -- After one link and its S, the item ends at a character that is no selector, no link and no emoji.
 joined_off : {c : ℕ} {k : Class} → HasClass c k → is_selector c ≡ false → eqb c 0x200D ≡ false → is_emoji c ≡ false → transition joined k
-    ≡ none
+    ≡ None
 unfolding transition
 joined_off (is_selector_lem s) e f g = absurd (true≢false (sym s ∙ e))
 joined_off {c} (is_link s) e f g = absurd (true≢false (sym (eq-eqb c 0x200D s) ∙ f))

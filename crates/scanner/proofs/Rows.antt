@@ -1,13 +1,9 @@
 -- The automaton of items by numbers: each row has the transitions of its state.
-use mathlib.Core.Path.{◌≡◌, refl, ap, sym}
-use mathlib.Core.Bool.{Bool, cond}
-use Prim.Native.Nat.{ℕ, zero, suc, ◌/◌, ◌%◌, ◌^◌}
-use lib.Dec.{eqb, eqb→eq}
-use Rattle.base.proofs.Tests.{fails}
+use mathlib.Core.Path.{◌≡◌, refl}
+use Prim.Native.Nat.{ℕ, ◌/◌, ◌%◌, ◌^◌}
 use Rattle.scanner.specs.Classes.{Class, selector, link, ri, modifier, emoji, keycap, tag, other}
 use Rattle.scanner.specs.Items.{State, plain, selectors, links, one_ri, unit, joined, left_over, next_of, start_state, transition}
 use Rattle.scanner.specs.Rows.{class_place, numbered, state_of}
-use Rattle.scanner.specs.declared.state.Next.TheVariants.{On, Stop}
 
 -- The row of a state.
 abbrev pub row_of : State → ℕ
@@ -88,17 +84,3 @@ start-row emoji = refl
 start-row keycap = refl
 start-row tag = refl
 start-row other = refl
-
--- The seventh state has the number 6, and so has every larger number.
-pub last-state : (n : ℕ) → (n ≡ 0 → ⊥) → (n ≡ 1 → ⊥) → (n ≡ 2 → ⊥) → (n ≡ 3 → ⊥) → (n ≡ 4 → ⊥) → (n ≡ 5 → ⊥) → left_over ≡ state_of n
-unfolding state_of
-last-state zero a b c d e f = absurd (a refl)
-last-state (suc zero) a b c d e f = absurd (b refl)
-last-state (suc (suc zero)) a b c d e f = absurd (c refl)
-last-state (suc (suc (suc zero))) a b c d e f = absurd (d refl)
-last-state (suc (suc (suc (suc zero)))) a b c d e f = absurd (e refl)
-last-state (suc (suc (suc (suc (suc zero))))) a b c d e f = absurd (f refl)
-last-state (suc (suc (suc (suc (suc (suc n)))))) a b c d e f = refl
-
-pub numbered-on : (n : ℕ) → (n ≡ 7 → ⊥) → On (state_of n) ≡ numbered n
-numbered-on n h = sym (ap (λ (b : Bool). cond b Stop (On (state_of n))) (fails (eqb n 7) (λ e. h (eqb→eq n 7 (rw e tt)))))

@@ -1,4 +1,5 @@
 -- Whether a character is a selector: the results of the tests in both cases, and the bytes of a selector.
+use Rattle.std.specs.Prelude.{Some, None}
 use mathlib.Core.Path.{◌≡◌, refl, ap, sym, ◌∙◌}
 use mathlib.Core.Bool.{Bool, true, false, cond, ◌||◌, true≢false}
 use mathlib.Core.Logic.{⊎_elim}
@@ -10,7 +11,6 @@ use Rattle.base.proofs.Tests.{either_true}
 use Rattle.utf8.specs.Rfc3629.{encode}
 use Rattle.emoji.specs.Presentation.{as_selector, from_selector, is_selector}
 use Rattle.emoji.specs.Theorems.{SelectorsArePresentations}
-use Rattle.emoji.specs.declared.presentation.FromSelector.TheVariants.{NoSelector, Selector}
 use Rattle.emoji.specs.declared.presentation.Presentation.{Presentation}
 use Rattle.emoji.specs.declared.presentation.Presentation.TheVariants.{Emoji, Text}
 use Rattle.emoji.proofs.Claims.{selectors_are_presentations}
@@ -36,29 +36,29 @@ unfolding is_selector as_selector
 selector_is Text = refl
 selector_is Emoji = refl
 
-pub from_selector_lem : (q : Presentation) → from_selector (as_selector q) ≡ Selector q
+pub from_selector_lem : (q : Presentation) → from_selector (as_selector q) ≡ Some q
 unfolding SelectorsArePresentations
 from_selector_lem = selectors_are_presentations.0
 
-pub selector_value : (c : ℕ) (q : Presentation) → from_selector c ≡ Selector q → c ≡ as_selector q
+pub selector_value : (c : ℕ) (q : Presentation) → from_selector c ≡ Some q → c ≡ as_selector q
 unfolding SelectorsArePresentations
 selector_value = selectors_are_presentations.1
 
-pub from-other : (c : ℕ) → is_selector c ≡ false → from_selector c ≡ NoSelector
+pub from-other : (c : ℕ) → is_selector c ≡ false → from_selector c ≡ None
 unfolding is_selector from_selector
 from-other c e = go (eqb c 0xFE0E) (eqb c 0xFE0F) e
   where
-    go : (a b : Bool) → (a || b) ≡ false → cond a (Selector Text) (cond b (Selector Emoji) NoSelector) ≡ NoSelector
+    go : (a b : Bool) → (a || b) ≡ false → cond a (Some Text) (cond b (Some Emoji) None) ≡ None
     go true b e = cc
     go false true e = cc
     go false false e = refl
 
-pub other_value : (c : ℕ) → from_selector c ≡ NoSelector → is_selector c ≡ false
+pub other_value : (c : ℕ) → from_selector c ≡ None → is_selector c ≡ false
 other_value c f = go (char_is c)
   where
     go : CharIs c → is_selector c ≡ false
     go (no_selector n) = n
-    go (a_selector q n) = let z : Selector q ≡ NoSelector = sym (ap from_selector n ∙ from_selector_lem q)
+    go (a_selector q n) = let z : Some q ≡ None = sym (ap from_selector n ∙ from_selector_lem q)
         ∙ f in let n : ◌≡◌ {A = ℕ} 0 1 = cc in absurd (omega arith)
 
 -- ---- three bytes for each selector

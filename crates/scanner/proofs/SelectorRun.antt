@@ -1,4 +1,6 @@
 -- The run of selectors by its bytes: three for each. The first selector is at the offset, the second three bytes after it.
+use Rattle.emoji.specs.declared.presentation.Presentation.{Presentation}
+use Rattle.std.specs.Prelude.{None, Option}
 use mathlib.Core.Path.{◌≡◌, refl, ap, sym, ◌∙◌}
 use mathlib.Core.Logic.{⊎_elim}
 use mathlib.Core.Bool.{Bool, true, false}
@@ -9,8 +11,6 @@ use lib.ListN.{length, drop}
 use Rattle.base.proofs.Tests.{le_or_lt}
 use Rattle.utf8.specs.Rfc3629.{chars}
 use Rattle.emoji.specs.Presentation.{is_selector}
-use Rattle.emoji.specs.declared.presentation.FromSelector.{FromSelector}
-use Rattle.emoji.specs.declared.presentation.FromSelector.TheVariants.{NoSelector}
 use Rattle.scanner.specs.Runs.{run, selectors_at}
 use Rattle.scanner.specs.SelectorRun.{first_selector, second_selector, selector_run, selectors_from}
 use Rattle.scanner.specs.Spans.{size, width}
@@ -61,12 +61,12 @@ module _ (text : List ℕ) (at end : ℕ) (e : end ≡ at + size width (selector
   end_is : end ≡ at + 3 * length (selectors_at (chars (drop at text)))
   end_is = let t = chars (drop at text) in omega (arith, e, selectors_size t)
 
-  pub no_selectors : end ≡ at → record { first = NoSelector; second = NoSelector; count = 0; end = end } ≡ selector_run text at
+  pub no_selectors : end ≡ at → record { first = None; second = None; count = 0; end = end } ≡ selector_run text at
   unfolding selector_run first_selector second_selector
   no_selectors h = go (selectors_at (chars (drop at text))) (omega (arith, end_is))
     where
-      go : (s : List ℕ) → length s ≡ 0 → record { first = NoSelector; second = NoSelector; count = 0; end = end } ≡ selectors_from at s
-      go [] n = ap (λ (x : ℕ). record { first = NoSelector; second = NoSelector; count = 0; end = x }) (omega arith)
+      go : (s : List ℕ) → length s ≡ 0 → record { first = None; second = None; count = 0; end = end } ≡ selectors_from at s
+      go [] n = ap (λ (x : ℕ). record { first = None; second = None; count = 0; end = x }) (omega arith)
       go (c ∷ s) n = absurd (omega arith)
 
   module _ (n : end ≡ at → ⊥) where
@@ -76,7 +76,8 @@ module _ (text : List ℕ) (at end : ℕ) (e : end ≡ at + size width (selector
     pub selector-room : at + 3 ≤ end
     selector-room = omega (arith, end_is, some-selectors)
 
-    pub selectors_are : (a b : FromSelector) → a ≡ first_selector (chars (drop at text)) → b ≡ first_selector (chars (drop (at + 3) text))
+    pub selectors_are : (a b : Option Presentation) → a ≡ first_selector (chars (drop at text))
+        → b ≡ first_selector (chars (drop (at + 3) text))
         → record { first = a; second = b; count = (end - at) / 3; end = end } ≡ selector_run text at
     unfolding selector_run
     selectors_are a b p q =

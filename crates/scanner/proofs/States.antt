@@ -1,8 +1,8 @@
 -- Facts about all states and classes, each by one computed test: which transitions stay in passthrough, and which states selectors
 -- lead back to.
+use Rattle.std.specs.Prelude.{Some, None, Option}
 use mathlib.Core.Path.{◌≡◌, refl, sym, subst}
 use mathlib.Core.Bool.{Bool, true, false, ◌&&◌, beq, false≢true, true≢false}
-use mathlib.Core.Option.{Option, none, some}
 use lib.Dec.{T}
 use Rattle.base.proofs.Tests.{beq_so, both_true}
 use Rattle.scanner.specs.Classes.{Class, selector, link, ri, modifier, emoji, keycap, tag, other}
@@ -21,7 +21,6 @@ use Rattle.scanner.specs.Items.{
   kind_of,
   next_of,
 }
-use Rattle.scanner.specs.declared.state.Next.TheVariants as Next
 use Rattle.scanner.specs.declared.ScanKind.TheVariants.{EmojiHeaded, LinksOnly, Passthrough, UnsanctionedPresentationSelectors}
 
 -- ---- a fact about all states and classes is one computed test
@@ -64,13 +63,13 @@ same_bool a b h = beq_so a b (is_true (beq a b) h)
 
 -- A test of the state to which a transition leads; true if there is no transition.
 abbrev pub on_some : (State → Bool) → Option State → Bool
-on_some f (some q) = f q
-on_some f none = true
+on_some f (Some q) = f q
+on_some f None = true
 
 abbrev pub on_transition : (State → State → Bool) → State → Class → Bool
 on_transition f p k = on_some (f p) (transition p k)
 
-pub on-transition : (f : State → State → Bool) → Every (on_transition f) → (p q : State) (k : Class) → transition p k ≡ some q → T (f p q)
+pub on-transition : (f : State → State → Bool) → Every (on_transition f) → (p q : State) (k : Class) → transition p k ≡ Some q → T (f p q)
 on-transition f h p q k e = subst (λ (o : Option State). T (on_some (f p) o)) e (everywhere (on_transition f) h p k)
 
 -- ---- passthrough
@@ -84,7 +83,7 @@ is_plain unit = false
 is_plain joined = false
 is_plain left_over = false
 
-pub same_side : (p q : State) (k : Class) → transition p k ≡ some q → is_plain p ≡ is_plain q
+pub same_side : (p q : State) (k : Class) → transition p k ≡ Some q → is_plain p ≡ is_plain q
 unfolding transition
 same_side p q k e = same_bool (is_plain p) (is_plain q) (on-transition (λ p q. beq (is_plain p) (is_plain q)) always p q k e)
 
@@ -105,7 +104,7 @@ kind_plain p e = subst (λ (q : State). kind_of q ≡ Passthrough) (sym (is_plai
 plain_on : Class → State → Bool
 plain_on k q = is_plain q && is_plain (start_state k)
 
-pub plain_transition : (k : Class) (q : State) → transition plain k ≡ some q → (q ≡ plain) × (start_state k ≡ plain)
+pub plain_transition : (k : Class) (q : State) → transition plain k ≡ Some q → (q ≡ plain) × (start_state k ≡ plain)
 unfolding transition start_state plain_on
 plain_transition k q e =
     let t : T (plain_on k q) = subst (λ (o : Option State). T (on_some (plain_on k) o)) e
@@ -124,12 +123,12 @@ inner unit = true
 inner joined = true
 inner left_over = true
 
-pub inner-transition : (p q : State) (k : Class) → transition p k ≡ some q → inner p ≡ inner q
+pub inner-transition : (p q : State) (k : Class) → transition p k ≡ Some q → inner p ≡ inner q
 unfolding transition
 inner-transition p q k e = same_bool (inner p) (inner q) (on-transition (λ p q. beq (inner p) (inner q)) always p q k e)
 
 -- A selector leads from every state other than passthrough to the same state.
-pub not_plain_selector : (p : State) → is_plain p ≡ false → transition p selector ≡ some p
+pub not_plain_selector : (p : State) → is_plain p ≡ false → transition p selector ≡ Some p
 unfolding transition
 not_plain_selector plain e = absurd (true≢false e)
 not_plain_selector selectors e = refl
@@ -140,7 +139,7 @@ not_plain_selector joined e = refl
 not_plain_selector left_over e = refl
 
 -- A selector begins an item only after passthrough, or at the start of a text.
-pub selector_ends : (p : State) → transition p selector ≡ none → p ≡ plain
+pub selector_ends : (p : State) → transition p selector ≡ None → p ≡ plain
 unfolding transition
 selector_ends plain e = refl
 selector_ends selectors e = cc
@@ -159,11 +158,11 @@ inner_not_plain unit e = refl
 inner_not_plain joined e = refl
 inner_not_plain left_over e = refl
 
-pub inner_selector : (p : State) → inner p ≡ true → transition p selector ≡ some p
+pub inner_selector : (p : State) → inner p ≡ true → transition p selector ≡ Some p
 inner_selector p e = not_plain_selector p (inner_not_plain p e)
 
 -- Only a selector continues a run of selectors.
-pub selectors_transition : (k : Class) (q : State) → transition selectors k ≡ some q → (k ≡ selector) × (q ≡ selectors)
+pub selectors_transition : (k : Class) (q : State) → transition selectors k ≡ Some q → (k ≡ selector) × (q ≡ selectors)
 unfolding transition
 selectors_transition selector q e = (refl, cc)
 selectors_transition link q e = (cc, cc)
@@ -175,7 +174,7 @@ selectors_transition tag q e = (cc, cc)
 selectors_transition other q e = (cc, cc)
 
 -- A character of class emoji leads to the state of a unit whose stem is complete.
-pub emoji_transition : (p q : State) → transition p emoji ≡ some q → q ≡ unit
+pub emoji_transition : (p q : State) → transition p emoji ≡ Some q → q ≡ unit
 unfolding transition
 emoji_transition plain r e = cc
 emoji_transition selectors r e = cc
@@ -196,11 +195,11 @@ headed unit = true
 headed joined = true
 headed left_over = true
 
-pub headed-transition : (p q : State) (k : Class) → transition p k ≡ some q → headed p ≡ headed q
+pub headed-transition : (p q : State) (k : Class) → transition p k ≡ Some q → headed p ≡ headed q
 unfolding transition
 headed-transition p q k e = same_bool (headed p) (headed q) (on-transition (λ p q. beq (headed p) (headed q)) always p q k e)
 
-pub tag_transition : (p q : State) → transition p tag ≡ some q → headed p ≡ true → q ≡ unit
+pub tag_transition : (p q : State) → transition p tag ≡ Some q → headed p ≡ true → q ≡ unit
 unfolding transition
 tag_transition plain q e h = absurd (false≢true h)
 tag_transition selectors q e h = cc
@@ -276,10 +275,10 @@ kind_emoji other e = cc
 
 -- ---- the code's answer for a transition
 
-pub next-on : (o : Option State) (q : State) → next_of o ≡ Next.On q → o ≡ some q
-next-on (some p) q e = cc
-next-on none q e = cc
+pub next-on : (o : Option State) (q : State) → next_of o ≡ Some q → o ≡ Some q
+next-on (Some p) q e = cc
+next-on None q e = cc
 
-pub next_stop : (o : Option State) → next_of o ≡ Next.Stop → o ≡ none
-next_stop (some p) e = cc
-next_stop none e = refl
+pub next_stop : (o : Option State) → next_of o ≡ None → o ≡ None
+next_stop (Some p) e = cc
+next_stop None e = refl

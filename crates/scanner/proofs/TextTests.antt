@@ -1,8 +1,8 @@
 -- The refusal of a text, by the results of its two tests.
+use Rattle.std.specs.Prelude.{Some, None, Option}
 use mathlib.Core.Path.{◌≡◌, ap, ◌∙◌}
 use mathlib.Core.Bool.{Bool, cond, not}
 use mathlib.Core.List.{List}
-use mathlib.Core.Option.{Option, none, some}
 use Prim.Native.Nat.{ℕ}
 use lib.Dec.{eqb, leb}
 use lib.ListN.{length}
@@ -14,7 +14,7 @@ use Rattle.scanner.specs.TextCheck.{text_refusal}
 
 -- The refusal, by the results of the two tests.
 abbrev pub by_text_tests : Bool → Bool → List ℕ → Option Refusal
-by_text_tests short formed text = cond (not short) (some TextTooLong) (cond (not formed) (some (NotWellFormed (valid_up_to_of text))) none)
+by_text_tests short formed text = cond (not short) (Some TextTooLong) (cond (not formed) (Some (NotWellFormed (valid_up_to_of text))) None)
 
 pub text_is : (text : List ℕ) {a f : Bool} → leb (length text) text_limit ≡ a → eqb (valid_up_to_of text) (length text) ≡ f
     → text_refusal text

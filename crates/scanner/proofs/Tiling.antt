@@ -1,7 +1,7 @@
 -- The items tile the text, none is empty, and a scan from an item's end gives the items after it.
+use Rattle.std.specs.Prelude.{Some, None, Option}
 use mathlib.Core.Path.{◌≡◌, refl, ap, sym, ◌∙◌}
 use mathlib.Core.Logic.{◌≢◌}
-use mathlib.Core.Option.{Option, none, some}
 use mathlib.Core.List.{List, [], ◌∷◌, ◌++◌, append_assoc, cons-ne-nil, Memᴰ}
 use Prim.Native.Nat.{ℕ}
 use lib.ListN.{length, drop}
@@ -17,12 +17,12 @@ first c t = record { kind = kind_of (start_state (class_of c)); chars = c ∷ (s
 abbrev pub after : ℕ → List ℕ → List Item
 after c t = (split_from (start_state (class_of c)) t).1
 
-pub split_from-some : (p q : State) (c : ℕ) (t : List ℕ) → transition p (class_of c) ≡ some q → split_from p (c ∷ t)
+pub split_from-some : (p q : State) (c : ℕ) (t : List ℕ) → transition p (class_of c) ≡ Some q → split_from p (c ∷ t)
     ≡ (c ∷ (split_from q t).0, (split_from q t).1)
 unfolding split_from
 split_from-some p q c t e = rw (e, split_from)
 
-pub split_from-none : (p : State) (c : ℕ) (t : List ℕ) → transition p (class_of c) ≡ none
+pub split_from-none : (p : State) (c : ℕ) (t : List ℕ) → transition p (class_of c) ≡ None
     → split_from p (c ∷ t) ≡ ([], first c t ∷ after c t)
 unfolding split_from
 split_from-none p c t e = rw (e, split_from)
@@ -34,8 +34,8 @@ split_from_tiles p (c ∷ t) = go (transition p (class_of c)) refl (λ q. split_
   where
     go : (o : Option State) → transition p (class_of c) ≡ o → ((q : State) → (split_from q t).0 ++ join (split_from q t).1 ≡ t)
         → (split_from p (c ∷ t)).0 ++ join (split_from p (c ∷ t)).1 ≡ c ∷ t
-    go (some q) e h = rw (split_from-some p q c t e) (ap (λ (l : List ℕ). c ∷ l) (h q))
-    go none e h = rw (split_from-none p c t e) (ap (λ (l : List ℕ). c ∷ l) (h (start_state (class_of c))))
+    go (Some q) e h = rw (split_from-some p q c t e) (ap (λ (l : List ℕ). c ∷ l) (h q))
+    go None e h = rw (split_from-none p c t e) (ap (λ (l : List ℕ). c ∷ l) (h (start_state (class_of c))))
 
 -- The characters of the items, one item after the other, are the text.
 pub tiling : (t : List ℕ) → join (items t) ≡ t
@@ -53,8 +53,8 @@ restart p (c ∷ t) = go (transition p (class_of c)) refl (λ q. restart q t)
     go : (o : Option State) → transition p (class_of c) ≡ o
         → ((q : State) → (split_from q t).1 ≡ items (drop (length (split_from q t).0) t))
         → (split_from p (c ∷ t)).1 ≡ items (drop (length (split_from p (c ∷ t)).0) (c ∷ t))
-    go (some q) e h = rw (split_from-some p q c t e) (h q)
-    go none e h = rw (split_from-none p c t e)
+    go (Some q) e h = rw (split_from-some p q c t e) (h q)
+    go None e h = rw (split_from-none p c t e)
 
 -- The items after the item at a state are the items of the remaining text, scanned alone.
 pub split_from-restart : (p : State) (t : List ℕ) → items (join (split_from p t).1) ≡ (split_from p t).1
@@ -94,8 +94,8 @@ split_from-filled p [] = no_item
 split_from-filled p (c ∷ t) = go (transition p (class_of c)) refl (λ q. split_from-filled q t)
   where
     go : (o : Option State) → transition p (class_of c) ≡ o → ((q : State) → Filled (split_from q t).1) → Filled (split_from p (c ∷ t)).1
-    go (some q) e h = rw (split_from-some p q c t e) (h q)
-    go none e h = rw (split_from-none p c t e) (and_item c _ refl (h (start_state (class_of c))))
+    go (Some q) e h = rw (split_from-some p q c t e) (h q)
+    go None e h = rw (split_from-none p c t e) (and_item c _ refl (h (start_state (class_of c))))
 
 pub filled : (t : List ℕ) → Filled (items t)
 unfolding items

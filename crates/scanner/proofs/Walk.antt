@@ -1,8 +1,8 @@
 -- The states to which a list of characters leads, and items in a row. A scan of the characters of items in a row gives these items,
 -- except that adjacent passthroughs become one.
+use Rattle.std.specs.Prelude.{Some, None, Option}
 use mathlib.Core.Path.{◌≡◌, refl, ap, sym, ◌∙◌, subst}
 use mathlib.Core.Bool.{Bool, true, false, false≢true}
-use mathlib.Core.Option.{Option, none, some}
 use mathlib.Core.List.{List, [], ◌∷◌, ◌++◌}
 use Prim.Native.Nat.{ℕ}
 use Rattle.base.proofs.Tests.{fails}
@@ -18,7 +18,7 @@ use Rattle.scanner.proofs.States.{is_plain, same_side, inner, inner-transition, 
 -- The characters lead from one state to another within one item.
 pub data Walk : State → List ℕ → State → Type 0 where
   stay : {p : State} → Walk p [] p
-  pass : {p q r : State} {c : ℕ} {t : List ℕ} → transition p (class_of c) ≡ some q → Walk q t r → Walk p (c ∷ t) r
+  pass : {p q r : State} {c : ℕ} {t : List ℕ} → transition p (class_of c) ≡ Some q → Walk q t r → Walk p (c ∷ t) r
 
 pub walk_append : {p q r : State} {s t : List ℕ} → Walk p s q → Walk q t r → Walk p (s ++ t) r
 walk_append stay v = v
@@ -43,7 +43,7 @@ split_from_walk (pass {p = p} {q = q} {r = r} {c = c} {t = s} e w) t = split_fro
 
 -- The item at state p may end before a character of class k: the automaton ends it there, or the item is passthrough.
 pub data Ends (p : State) (k : Class) : Type 0 where
-  stops : transition p k ≡ none → Ends p k
+  stops : transition p k ≡ None → Ends p k
   merges : p ≡ plain → Ends p k
 
 pub data Chain : State → List Item → Type 0 where
@@ -62,13 +62,13 @@ rest p [] = record { end = p; walked = stay; chain = done }
 rest p (c ∷ t) = go (transition p (class_of c)) refl (λ q. rest q t)
   where
     go : (o : Option State) → transition p (class_of c) ≡ o → ((q : State) → Rest q t) → Rest p (c ∷ t)
-    go (some q) e h = record {
+    go (Some q) e h = record {
       end = (h q).end;
       walked = rw (split_from-some p q c t e) (pass e (h q).walked);
       chain = rw (split_from-some p q c t e)
           (h q).chain;
     }
-    go none e h = record {
+    go None e h = record {
       end = p;
       walked = rw (split_from-none p c t e) stay;
       chain = rw (split_from-none p c t e)
@@ -103,12 +103,12 @@ strip_walk i (pass {p = p} {q = q} {r = r} {c = c} {t = t} e w) = go (is_selecto
   where
     go : (b : Bool) → is_selector c ≡ b → Walk q (strip t) r → Walk p (strip (c ∷ t)) r
     go true s h =
-        let m : transition p (class_of c) ≡ some p = rw (class_selector c s) (inner_selector p i) in
+        let m : transition p (class_of c) ≡ Some p = rw (class_selector c s) (inner_selector p i) in
         let n : q ≡ p = cc in
         rw (strip_selector c t s) (subst (λ (x : State). Walk x (strip t) r) n h)
     go false s h = rw (strip-char c t s) (pass e h)
 
-pub walk_cons : {p q : State} {c : ℕ} {t : List ℕ} → Walk p (c ∷ t) q → (r : State) × (transition p (class_of c) ≡ some r) × Walk r t q
+pub walk_cons : {p q : State} {c : ℕ} {t : List ℕ} → Walk p (c ∷ t) q → (r : State) × (transition p (class_of c) ≡ Some r) × Walk r t q
 walk_cons (pass {q = q} s w) = (q, s, w)
 
 pub fill_walk : {p q : State} (t : List ℕ) → inner p ≡ true → Walk p (strip t) q → Walk p t q
@@ -117,7 +117,7 @@ fill_walk {p} {q} [] i w = w
 fill_walk {p} {q} (c ∷ t) i w = go (is_selector c) refl (λ x j v. fill_walk {p = x} t j v)
   where
     go : (b : Bool) → is_selector c ≡ b → ((x : State) → inner x ≡ true → Walk x (strip t) q → Walk x t q) → Walk p (c ∷ t) q
-    go true s h = let m : transition p (class_of c) ≡ some p = rw (class_selector c s) (inner_selector p i) in pass m
+    go true s h = let m : transition p (class_of c) ≡ Some p = rw (class_selector c s) (inner_selector p i) in pass m
         (h p i (rw (strip_selector c t s) at w))
     go false s h = let v = walk_cons (rw (strip-char c t s) at w) in pass v.1
         (h v.0 (sym (inner-transition p v.0 (class_of c) v.1) ∙ i) v.2)

@@ -1,7 +1,7 @@
 -- The grammar derives what the automaton accepts: `walk_derive`.
+use Rattle.std.specs.Prelude.{Some, None, Option}
 use mathlib.Core.Path.{◌≡◌, ap, sym, ◌∙◌, subst}
 use mathlib.Core.Bool.{true}
-use mathlib.Core.Option.{Option, none, some}
 use mathlib.Core.List.{List, [], ◌∷◌, ◌++◌, append_assoc}
 use Prim.Native.Nat.{ℕ}
 use Rattle.emoji.specs.Presentation.{is_selector}
@@ -140,8 +140,8 @@ keycap-run {c} {t} (is_keycap e) h = subst (λ (x : ℕ). PlainRun (x ∷ t)) (s
 -- ---- a transition, and a walk
 
 abbrev TailAfter : Option State → List ℕ → Type 0
-TailAfter none t = ⊥
-TailAfter (some q) t = Tail q t
+TailAfter None t = ⊥
+TailAfter (Some q) t = Tail q t
 
 tail-transition : (p : State) {k : Class} {c : ℕ} (t : List ℕ) → HasClass c k → TailAfter (transition p k) t → Tail p (c ∷ t)
 unfolding transition

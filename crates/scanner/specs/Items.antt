@@ -1,10 +1,7 @@
 -- The items of a text, computed character by character by an automaton (document 01, "Item").
 -- They are the grammar's only reading of the text: specs/Theorems.antt, ItemsAreAReading and OnlyReading.
-use Rattle.std.specs.Prelude.{Bool, true, false, List, [], ◌∷◌, ◌++◌, ℕ}
-use Rattle.std.proofs.Math.Option.{Option, none, some}
+use Rattle.std.specs.Prelude.{Bool, true, false, List, [], ◌∷◌, ◌++◌, ℕ, Some, None, Option}
 use Rattle.scanner.specs.Classes.{Class, selector, link, ri, modifier, emoji, keycap, tag, other, class_of}
-use Rattle.scanner.specs.declared.state.Next.{Next}
-use Rattle.scanner.specs.declared.state.Next.TheVariants.{On, Stop}
 use Rattle.scanner.specs.declared.ScanKind.{ScanKind}
 use Rattle.scanner.specs.declared.ScanKind.TheVariants.{EmojiHeaded, LinksOnly, Passthrough, UnsanctionedPresentationSelectors}
 -- A state of the automaton says where in an item a character stands: in passthrough; in a run of selectors; in a run of links; in a
@@ -24,73 +21,73 @@ pub use Rattle.scanner.specs.declared.state.State.TheVariants.{
 -- The state after a character of the class if the item goes on with this character; `none` if the item ends before it.
 unfoldable pub transition : State → Class → Option State
 -- "Otherwise passthrough, up to the next selector, 200D or emoji."
-transition plain selector = none
-transition plain link = none
-transition plain ri = none
-transition plain modifier = none
-transition plain emoji = none
-transition plain keycap = some plain
-transition plain tag = some plain
-transition plain other = some plain
+transition plain selector = None
+transition plain link = None
+transition plain ri = None
+transition plain modifier = None
+transition plain emoji = None
+transition plain keycap = Some plain
+transition plain tag = Some plain
+transition plain other = Some plain
 -- "At a selector it is the run of selectors."
-transition selectors selector = some selectors
-transition selectors link = none
-transition selectors ri = none
-transition selectors modifier = none
-transition selectors emoji = none
-transition selectors keycap = none
-transition selectors tag = none
-transition selectors other = none
+transition selectors selector = Some selectors
+transition selectors link = None
+transition selectors ri = None
+transition selectors modifier = None
+transition selectors emoji = None
+transition selectors keycap = None
+transition selectors tag = None
+transition selectors other = None
 -- "At 200D an item is the run of links, each 200D and S."
-transition links selector = some links
-transition links link = some links
-transition links ri = none
-transition links modifier = none
-transition links emoji = none
-transition links keycap = none
-transition links tag = none
-transition links other = none
+transition links selector = Some links
+transition links link = Some links
+transition links ri = None
+transition links modifier = None
+transition links emoji = None
+transition links keycap = None
+transition links tag = None
+transition links other = None
 -- "Stem: RI, S, RI, S (a flag); otherwise one emoji and S."
-transition one_ri selector = some one_ri
-transition one_ri link = some joined
-transition one_ri ri = some unit
-transition one_ri modifier = some unit
-transition one_ri emoji = none
-transition one_ri keycap = some unit
-transition one_ri tag = some unit
-transition one_ri other = none
+transition one_ri selector = Some one_ri
+transition one_ri link = Some joined
+transition one_ri ri = Some unit
+transition one_ri modifier = Some unit
+transition one_ri emoji = None
+transition one_ri keycap = Some unit
+transition one_ri tag = Some unit
+transition one_ri other = None
 -- "Unit: a stem and its modifications": a modifier and S; 20E3 and S; or groups of tags and S.
-transition unit selector = some unit
-transition unit link = some joined
-transition unit ri = none
-transition unit modifier = some unit
-transition unit emoji = none
-transition unit keycap = some unit
-transition unit tag = some unit
-transition unit other = none
+transition unit selector = Some unit
+transition unit link = Some joined
+transition unit ri = None
+transition unit modifier = Some unit
+transition unit emoji = None
+transition unit keycap = Some unit
+transition unit tag = Some unit
+transition unit other = None
 -- ".. then further units each joined by exactly one link"
-transition joined selector = some joined
-transition joined link = some left_over
-transition joined ri = some one_ri
-transition joined modifier = some unit
-transition joined emoji = some unit
-transition joined keycap = none
-transition joined tag = none
-transition joined other = none
+transition joined selector = Some joined
+transition joined link = Some left_over
+transition joined ri = Some one_ri
+transition joined modifier = Some unit
+transition joined emoji = Some unit
+transition joined keycap = None
+transition joined tag = None
+transition joined other = None
 -- ".. then the links left over, each link again with its S."
-transition left_over selector = some left_over
-transition left_over link = some left_over
-transition left_over ri = none
-transition left_over modifier = none
-transition left_over emoji = none
-transition left_over keycap = none
-transition left_over tag = none
-transition left_over other = none
+transition left_over selector = Some left_over
+transition left_over link = Some left_over
+transition left_over ri = None
+transition left_over modifier = None
+transition left_over emoji = None
+transition left_over keycap = None
+transition left_over tag = None
+transition left_over other = None
 
 -- The result of `transition` as the code's enum `Next`.
-abbrev pub next_of : Option State → Next
-next_of (some q) = On q
-next_of none = Stop
+abbrev pub next_of : Option State → Option State
+next_of (Some q) = Some q
+next_of None = None
 
 -- The state after the first character of an item.
 unfoldable pub start_state : Class → State
@@ -155,8 +152,8 @@ unfoldable pub split_from : State → List ℕ → List ℕ × List Item
 split_from p [] = ([], [])
 split_from p (c ∷ t) =
     elim (transition p (class_of c)) [
-      | some q ↦ (c ∷ (split_from q t).0, (split_from q t).1)
-      | none ↦ ([], begin_item c (split_from (start_state (class_of c)) t))
+      | Some q ↦ (c ∷ (split_from q t).0, (split_from q t).1)
+      | None ↦ ([], begin_item c (split_from (start_state (class_of c)) t))
     ]
 
 -- The items of a text.

@@ -1,9 +1,7 @@
 -- The automaton of items by numbers, for the contracts of the code: a state is a number, and a state's row has one number for each class.
-use Rattle.std.specs.Prelude.{ℕ, zero, suc, cond, eqb}
+use Rattle.std.specs.Prelude.{ℕ, zero, suc, cond, eqb, Some, None, Option}
 use Rattle.scanner.specs.Classes.{Class, selector, link, ri, modifier, emoji, keycap, tag, other}
 use Rattle.scanner.specs.Items.{State, plain, selectors, links, one_ri, unit, joined, left_over}
-use Rattle.scanner.specs.declared.state.Next.{Next}
-use Rattle.scanner.specs.declared.state.Next.TheVariants.{On, Stop}
 
 -- Where the number for a class begins in a row, in bits.
 abbrev pub class_place : Class → ℕ
@@ -27,5 +25,5 @@ state_of (suc (suc (suc (suc (suc zero))))) = joined
 state_of (suc (suc (suc (suc (suc (suc n)))))) = left_over
 
 -- What a number of a row means: 7 is the end of the item, and any other number is the next state.
-abbrev pub numbered : ℕ → Next
-numbered n = cond (eqb n 7) Stop (On (state_of n))
+abbrev pub numbered : ℕ → Option State
+numbered n = cond (eqb n 7) None (Some (state_of n))

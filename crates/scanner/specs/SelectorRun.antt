@@ -1,22 +1,21 @@
 -- Contracts of helper functions: src/selectors.rt returns the selectors at an offset as "a unit's selector run held as its first
 -- two and its length" (document 01).
-use Rattle.std.specs.Prelude.{List, [], ◌∷◌, ℕ, ◌+◌, length, drop}
+use Rattle.emoji.specs.declared.presentation.Presentation.{Presentation}
+use Rattle.std.specs.Prelude.{List, [], ◌∷◌, ℕ, ◌+◌, length, drop, None, Option}
 use Rattle.utf8.specs.Rfc3629.{chars}
 use Rattle.emoji.specs.Presentation.{from_selector}
-use Rattle.emoji.specs.declared.presentation.FromSelector.{FromSelector}
-use Rattle.emoji.specs.declared.presentation.FromSelector.TheVariants.{NoSelector}
 use Rattle.scanner.specs.Runs.{selectors_at}
 use Rattle.scanner.specs.Spans.{size, width}
 use Rattle.scanner.specs.declared.selectors.PresentationSelectors.{PresentationSelectors}
 
 -- The presentation that the first character selects, or that the first character is no selector.
-unfoldable pub first_selector : List ℕ → FromSelector
-first_selector [] = NoSelector
+unfoldable pub first_selector : List ℕ → Option Presentation
+first_selector [] = None
 first_selector (c ∷ t) = from_selector c
 
 -- The same of the second character.
-unfoldable pub second_selector : List ℕ → FromSelector
-second_selector [] = NoSelector
+unfoldable pub second_selector : List ℕ → Option Presentation
+second_selector [] = None
 second_selector (c ∷ t) = first_selector t
 
 -- The value for selectors that begin at an offset: the first two, their number, and the offset of their end.

@@ -1,6 +1,6 @@
 -- The items of a text by their bytes: `scan` lists them, and `scan_at` is the answer of a cursor at a byte offset (document 01,
 -- "Item").
-use Rattle.std.specs.Prelude.{Bool, cond, List, [], ◌∷◌, ℕ, ◌+◌, length, drop}
+use Rattle.std.specs.Prelude.{Bool, cond, List, [], ◌∷◌, ℕ, ◌+◌, length, drop, Some, None, Option}
 use Rattle.utf8.specs.Rfc3629.{chars, encode}
 use Rattle.positions.specs.Positions.{capped_plus, no_count, text_count}
 use Rattle.positions.specs.declared.TextCount.{TextCount}
@@ -9,8 +9,6 @@ use Rattle.scanner.specs.Tags.{tags_complete_of}
 use Rattle.scanner.specs.declared.ScanItem.{ScanItem}
 use Rattle.scanner.specs.declared.ScanKind.{ScanKind}
 use Rattle.scanner.specs.declared.ScanKind.TheVariants.{EmojiHeaded, LinksOnly, Passthrough, UnsanctionedPresentationSelectors}
-use Rattle.scanner.specs.declared.ScanStep.{ScanStep}
-use Rattle.scanner.specs.declared.ScanStep.TheVariants as Step
 
 module _ (weight : ℕ → ℕ) where
   -- The sum of the weights of characters; with `width` it is their length in bytes.
@@ -71,12 +69,12 @@ abbrev pub end_count : ScanItem → TextCount
 end_count x = record { chars = x.char_end; units = x.unit_end }
 
 -- The first item of a list, or the end.
-unfoldable pub first_of : List ScanItem → ScanStep
-first_of [] = Step.End
-first_of (x ∷ xs) = Step.Item x
+unfoldable pub first_of : List ScanItem → Option ScanItem
+first_of [] = None
+first_of (x ∷ xs) = Some x
 
 -- The answer of a cursor at a byte offset: the item that begins there, or the end.
-unfoldable pub scan_at : List ℕ → ℕ → TextCount → ScanStep
+unfoldable pub scan_at : List ℕ → ℕ → TextCount → Option ScanItem
 scan_at text at before = first_of (scan_from text at before)
 
 -- The remaining characters of an item, read from the byte offset on. The item's character before the offset led to state p.

@@ -1,5 +1,5 @@
 -- Statements about items and spans. Each statement is proved in proofs/Claims.antt.
-use Rattle.std.specs.Prelude.{◌≡◌, ◌≢◌, ◌⊎◌, ◌↔◌, Bool, true, false, ℕ, ◌+◌, ◌-◌, ◌^◌, ◌≤◌, ◌<◌, eqb, length, take, drop}
+use Rattle.std.specs.Prelude.{◌≡◌, ◌≢◌, ◌⊎◌, ◌↔◌, Bool, true, false, ℕ, ◌+◌, ◌-◌, ◌^◌, ◌≤◌, ◌<◌, eqb, length, take, drop, None}
 use mathlib.Core.List.{List, [], ◌∷◌, ◌++◌, Memᴰ}
 use Rattle.emoji.specs.Presentation.{is_selector}
 use Rattle.emoji.specs.Unicode.{is_emoji, is_tag}
@@ -55,7 +55,6 @@ use Rattle.scanner.specs.Spans.{end_count, first_of, scan, scan_at, scan_from, s
 use Rattle.scanner.specs.declared.ScanItem.{ScanItem}
 use Rattle.scanner.specs.declared.ScanKind.{ScanKind}
 use Rattle.scanner.specs.declared.ScanKind.TheVariants.{EmojiHeaded, LinksOnly, Passthrough, UnsanctionedPresentationSelectors}
-use Rattle.scanner.specs.declared.ScanStep.TheVariants.{End}
 
 -- ---- items
 
@@ -200,17 +199,17 @@ CursorAtItemEnd =
 
 -- A cursor past the end of the text answers the end.
 unfoldable pub CursorPastEnd : Type 0
-CursorPastEnd = (text : List ℕ) (at : ℕ) (before : TextCount) → length text ≤ at → scan_at text at before ≡ End
+CursorPastEnd = (text : List ℕ) (at : ℕ) (before : TextCount) → length text ≤ at → scan_at text at before ≡ None
 
 -- A cursor at an offset inside a character answers the end.
 unfoldable pub CursorInsideCharacter : Type 0
 CursorInsideCharacter =
     (text : List ℕ) (at v w k : ℕ) (before : TextCount) → read_char (drop at text) ≡ Read.Char v w → 0 < k → k < w
-    → scan_at text (at + k) before ≡ End
+    → scan_at text (at + k) before ≡ None
 
 -- A cursor answers the end exactly at an offset where no well-formed character begins.
 unfoldable pub CursorEnds : Type 0
-CursorEnds = (text : List ℕ) (at : ℕ) (before : TextCount) → (scan_at text at before ≡ End) ↔ (chars (drop at text) ≡ [])
+CursorEnds = (text : List ℕ) (at : ℕ) (before : TextCount) → (scan_at text at before ≡ None) ↔ (chars (drop at text) ≡ [])
 
 -- ---- positions (document 02, v). A text in memory has fewer than 2^63 bytes
 

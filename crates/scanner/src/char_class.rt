@@ -10,11 +10,11 @@ ghost use Rattle.scanner.specs.Peek.{peek_at};
 
 use emoji::{
     COMBINING_ENCLOSING_KEYCAP, EMOJI_PRESENTATION_SELECTOR, EmojiData, TEXT_PRESENTATION_SELECTOR,
-    VariationSequenceIndex, ZWJ,
+    ZWJ,
 };
 
 // The classes of characters: a selector, a link, an RI, a modifier, another emoji, 20E3, a tag, or any other character.
-#[derive(Clone, Copy)]
+#[derive(Clone, Copy, Debug, PartialEq, Eq)]
 pub enum Class {
     Selector,
     Link,
@@ -27,59 +27,43 @@ pub enum Class {
 }
 
 // The class of a character, and its index among the variation entries, if it has one.
-#[derive(Clone, Copy)]
+#[derive(Clone, Copy, Debug, PartialEq, Eq)]
 pub struct Classified {
     pub class: Class,
-    pub index: VariationSequenceIndex,
+    pub index: Option<usize>,
 }
 
-// The character at an offset, its class and the offset after it; or that no character begins there.
-#[derive(Clone, Copy)]
-pub enum Peeked {
-    Char {
-        value: u32,
-        class: Class,
-        end: usize,
-    },
-    NoChar,
+// The character at an offset, its class and the offset after it.
+#[derive(Clone, Copy, Debug, PartialEq, Eq)]
+pub struct Peeked {
+    pub value: u32,
+    pub class: Class,
+    pub end: usize,
 }
 
 // The class of a character that is not an emoji.
 fn class_of_plain(ch: u32) -> Class
     ensures { is_emoji ch ≡ false → result ≡ class_of ch }
 {
-    if ch < ZWJ {
-        return Class::Other;
+    match ch {
+        ..ZWJ => Class::Other,
+        ZWJ => Class::Link,
+        COMBINING_ENCLOSING_KEYCAP => Class::Keycap,
+        TEXT_PRESENTATION_SELECTOR | EMOJI_PRESENTATION_SELECTOR => Class::Selector,
+        _ if emoji::is_tag(ch) => Class::Tag,
+        _ => Class::Other,
     }
-    if ch == ZWJ {
-        return Class::Link;
-    }
-    if ch == COMBINING_ENCLOSING_KEYCAP {
-        return Class::Keycap;
-    }
-    if ch == TEXT_PRESENTATION_SELECTOR {
-        return Class::Selector;
-    }
-    if ch == EMOJI_PRESENTATION_SELECTOR {
-        return Class::Selector;
-    }
-    if emoji::is_tag(ch) {
-        return Class::Tag;
-    }
-    Class::Other
 }
 
 // The class of an emoji.
 fn class_of_emoji(ch: u32) -> Class
     ensures { is_emoji ch ≡ true → result ≡ class_of ch }
 {
-    if emoji::is_ri_by_ends(ch) {
-        return Class::Ri;
+    match ch {
+        _ if emoji::is_ri_by_ends(ch) => Class::Ri,
+        _ if emoji::is_emoji_modifier_by_ends(ch) => Class::Modifier,
+        _ => Class::Emoji,
     }
-    if emoji::is_emoji_modifier_by_ends(ch) {
-        return Class::Modifier;
-    }
-    Class::Emoji
 }
 
 // The class of a character, and its index among the variation entries, if it has one.
@@ -100,20 +84,19 @@ pub fn classify(ch: u32) -> Classified
 pub fn class_of(ch: u32) -> Class
     ensures { result ≡ class_of ch }
 {
-    let Classified { class, index: _ } = classify(ch);
-    class
+    classify(ch).class
 }
 
 // Reads the character at an offset. No character begins past the end of the text or inside a character.
-pub fn peek(text: &[u8], at: usize) -> Peeked
+pub fn peek(text: &[u8], at: usize) -> Option<Peeked>
     ensures { result ≡ peek_at at (chars (drop at text.now)) }
 {
     let packed = utf8::decode(text, at);
     if packed == 0 {
-        return Peeked::NoChar;
+        return None;
     }
     let value = packed / 8;
     let class = class_of(value);
     let end = at + (packed % 8) as usize;
-    Peeked::Char { value, class, end }
+    Some(Peeked { value, class, end })
 }

@@ -6,10 +6,11 @@ ghost use Rattle.utf8.specs.Rfc3629.{chars};
 ghost use Rattle.scanner.specs.RunKinds.{in_run, run_of};
 ghost use Rattle.scanner.specs.Spans.{size, width};
 
-use crate::char_class::{Class, Peeked, peek};
+use crate::char_class::{Class, peek};
 
-// The runs that are determined by a test on each single character.
-#[derive(Clone, Copy)]
+// The runs that are determined by a test on each single character. A predicate in place of the kind would ask of each caller of the
+// public `run_end` that it can be called.
+#[derive(Clone, Copy, Debug, PartialEq, Eq)]
 pub enum RunKind {
     Selectors,
     Links,
@@ -23,49 +24,28 @@ fn in_run(kind: RunKind, class: Class) -> bool
     ensures { result ≡ in_run kind class }
 {
     match kind {
-        RunKind::Selectors => match class {
-            Class::Selector => true,
-            _ => false,
-        },
-        RunKind::Links => match class {
-            Class::Selector | Class::Link => true,
-            _ => false,
-        },
-        RunKind::Modifications => match class {
-            Class::Selector | Class::Modifier | Class::Keycap | Class::Tag => true,
-            _ => false,
-        },
-        RunKind::Tags => match class {
-            Class::Tag => true,
-            _ => false,
-        },
-        RunKind::Passthrough => match class {
-            Class::Keycap | Class::Tag | Class::Other => true,
-            _ => false,
-        },
+        RunKind::Selectors => matches!(class, Class::Selector),
+        RunKind::Links => matches!(class, Class::Selector | Class::Link),
+        RunKind::Modifications => matches!(
+            class,
+            Class::Selector | Class::Modifier | Class::Keycap | Class::Tag
+        ),
+        RunKind::Tags => matches!(class, Class::Tag),
+        RunKind::Passthrough => matches!(class, Class::Keycap | Class::Tag | Class::Other),
     }
 }
 
-// The offset of the end of the run that begins at an offset.
+// The offset of the end of the run that begins at an offset. An iterator over characters would be a struct, an impl and its law for
+// this one loop.
 pub fn run_end(text: &[u8], at: usize, kind: RunKind) -> usize
     ensures { result ≡ at + size width (run_of kind (chars (drop at text.now))) }
 {
     let mut end = at;
-    loop {
-        match peek(text, end) {
-            Peeked::Char {
-                value: _,
-                class,
-                end: next,
-            } => {
-                if !in_run(kind, class) {
-                    return end;
-                }
-                end = next;
-            }
-            Peeked::NoChar => {
-                return end;
-            }
+    while let Some(next) = peek(text, end) {
+        if !in_run(kind, next.class) {
+            break;
         }
+        end = next.end;
     }
+    end
 }

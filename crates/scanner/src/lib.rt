@@ -3,6 +3,8 @@
 // selectors and a run of characters of one kind. The automaton of src/state.rt says where an item ends. The crate item_scanner finds
 // items, and the crate item_parts reads their parts. An item has its start and end in bytes, characters and UTF-16 units (document 02,
 // v).
+// Functions take a text and an offset of it, and return offsets of the whole text. A struct of the two is no plainer: each call would
+// make one, and each callee would take it apart. `Scanner` of the crate text_scanner is the one value that keeps both.
 #![tactic(auto)]
 
 pub mod char_class;
@@ -15,7 +17,7 @@ ghost use Rattle.std.specs.Prelude.{◌≡◌, ◌↔◌, true};
 ghost use Rattle.scanner.specs.Spans.{kind_number};
 
 // The kind of an item.
-#[derive(Clone, Copy)]
+#[derive(Clone, Copy, Debug, PartialEq, Eq)]
 pub enum ScanKind {
     Passthrough,
     UnsanctionedPresentationSelectors,
@@ -25,7 +27,7 @@ pub enum ScanKind {
 
 // An item: its bytes from start up to end, its kind, whether its tags are complete, and its start and end in characters and in UTF-16
 // units.
-#[derive(Clone, Copy)]
+#[derive(Clone, Copy, Debug, PartialEq, Eq)]
 pub struct ScanItem {
     pub start: usize,
     pub end: usize,
@@ -38,15 +40,11 @@ pub struct ScanItem {
 }
 
 // The number of a kind.
+#[tactic(auto, unfolding(crate::specs::Spans::kind_number))]
 pub fn kind_number(kind: ScanKind) -> usize
     ensures { result ≡ kind_number kind }
 {
-    match kind {
-        ScanKind::Passthrough => 0,
-        ScanKind::UnsanctionedPresentationSelectors => 1,
-        ScanKind::LinksOnly => 2,
-        ScanKind::EmojiHeaded => 3,
-    }
+    kind as usize
 }
 
 impl ScanItem {
@@ -54,36 +52,6 @@ impl ScanItem {
     pub fn eq(self, rhs: Self) -> bool
         ensures { (result ≡ true) ↔ (self ≡ rhs) }
     {
-        if self.start != rhs.start {
-            return false;
-        }
-        if self.end != rhs.end {
-            return false;
-        }
-        if self.char_start != rhs.char_start {
-            return false;
-        }
-        if self.char_end != rhs.char_end {
-            return false;
-        }
-        if self.unit_start != rhs.unit_start {
-            return false;
-        }
-        if self.unit_end != rhs.unit_end {
-            return false;
-        }
-        let kind = self.kind;
-        let other = rhs.kind;
-        if kind_number(kind) != kind_number(other) {
-            return false;
-        }
-        self.tags_complete == rhs.tags_complete
+        self == rhs
     }
-}
-
-// The answer of a cursor: the item at its offset, or that there is none.
-#[derive(Clone, Copy)]
-pub enum ScanStep {
-    Item(ScanItem),
-    End,
 }

@@ -11,7 +11,7 @@ ghost use Rattle.scanner.specs.Rows.{class_place, numbered, state_of};
 use crate::ScanKind;
 use crate::char_class::Class;
 
-#[derive(Clone, Copy)]
+#[derive(Clone, Copy, Debug, PartialEq, Eq)]
 pub enum State {
     // in passthrough
     Plain,
@@ -29,52 +29,27 @@ pub enum State {
     LeftOver,
 }
 
-// The next state, or that the item ends before the character.
-#[derive(Clone, Copy)]
-pub enum Next {
-    On(State),
-    Stop,
-}
-
 // Where the number for a class begins in a row of the automaton, in bits.
 fn class_place(k: Class) -> u32
     ensures { (result ≡ class_place k) × (result ≤ 28) }
 {
-    match k {
-        Class::Selector => 0,
-        Class::Link => 4,
-        Class::Ri => 8,
-        Class::Modifier => 12,
-        Class::Emoji => 16,
-        Class::Keycap => 20,
-        Class::Tag => 24,
-        Class::Other => 28,
-    }
+    4 * k as u32
 }
 
 // The state that has a number.
+#[tactic(auto, unfolding(crate::specs::Rows::state_of))]
 fn state_of(n: u32) -> State
     ensures { result ≡ state_of n }
 {
-    if n == 0 {
-        return State::Plain;
+    match n {
+        0 => State::Plain,
+        1 => State::Selectors,
+        2 => State::Links,
+        3 => State::OneRi,
+        4 => State::Unit,
+        5 => State::Joined,
+        _ => State::LeftOver,
     }
-    if n == 1 {
-        return State::Selectors;
-    }
-    if n == 2 {
-        return State::Links;
-    }
-    if n == 3 {
-        return State::OneRi;
-    }
-    if n == 4 {
-        return State::Unit;
-    }
-    if n == 5 {
-        return State::Joined;
-    }
-    State::LeftOver
 }
 
 // The row of a state: the number of the next state for each class, or 7 where the item ends. The class of selectors has the lowest bits.
@@ -93,6 +68,7 @@ fn row_of(p: State) -> u32
 }
 
 // The state after the first character of an item.
+#[tactic(auto, unfolding(crate::specs::Items::start_state))]
 pub fn start_state(k: Class) -> State
     ensures { result ≡ start_state k }
 {
@@ -105,7 +81,8 @@ pub fn start_state(k: Class) -> State
     }
 }
 
-// The same by a row, without a jump that depends on the class. It is faster where items of many kinds follow each other.
+// The same by a row, without a jump that depends on the class. It is faster where items of many kinds follow each other. Where the
+// caller matches on the state at once, the match above is: its arms become the caller's.
 pub fn start_state_by_row(k: Class) -> State
     ensures { result ≡ start_state k }
 {
@@ -113,30 +90,25 @@ pub fn start_state_by_row(k: Class) -> State
 }
 
 // The state after a character of the class, if the item goes on with it.
-pub fn transition(p: State, k: Class) -> Next
+pub fn transition(p: State, k: Class) -> Option<State>
     ensures { result ≡ next_of (transition p k) }
 {
-    let n = (row_of(p) >> class_place(k)) % 8;
-    if n == 7 {
-        return Next::Stop;
+    match (row_of(p) >> class_place(k)) % 8 {
+        7 => None,
+        n => Some(state_of(n)),
     }
-    Next::On(state_of(n))
 }
 
 // Whether a tag modification begins with a character of class k that leads to state p.
+#[tactic(auto, unfolding(crate::specs::Items::begins_tags))]
 pub fn begins_tags(p: State, k: Class) -> bool
     ensures { result ≡ begins_tags p k }
 {
-    match k {
-        Class::Tag => match p {
-            State::Unit => true,
-            _ => false,
-        },
-        _ => false,
-    }
+    matches!((p, k), (State::Unit, Class::Tag))
 }
 
 // The kind of an item, by the state after any of its characters.
+#[tactic(auto, unfolding(crate::specs::Items::kind_of))]
 pub fn kind_of(p: State) -> ScanKind
     ensures { result ≡ kind_of p }
 {

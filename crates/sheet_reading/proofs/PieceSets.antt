@@ -1,9 +1,9 @@
 -- The sets of the pieces that were read.
+use Rattle.std.specs.Prelude.{Some, None, Option}
 use mathlib.Core.Path.{◌≡◌, refl, ap, ap₂, sym, ◌∙◌, subst}
 use mathlib.Core.Bool.{Bool, true, false, cond, true≢false, ◌&&◌, ◌||◌}
 use mathlib.Core.List.{List, [], ◌∷◌, ◌++◌}
 use mathlib.Core.Logic.{⊎_elim}
-use mathlib.Core.Option.{Option, none, some}
 use Prim.Native.Nat.{ℕ, suc, ◌+◌, ◌<◌, ◌≤◌}
 use native.Mathlib.Omega.{arith}
 use lib.Dec.{eqb, ltb}
@@ -38,8 +38,7 @@ use Rattle.policy_sheet.proofs.Faults.{closed-pieces}
 use Rattle.policy_sheet.specs.Meaning.{covered, has, in_set, sheet_policy}
 use Rattle.policy_sheet.proofs.ReadsBack.{covered_append}
 use Rattle.sheet_reading.specs.declared.cursor.Cursor.{Cursor}
-use Rattle.sheet_reading.specs.declared.cursor.Step.{Step}
-use Rattle.sheet_reading.specs.declared.cursor.Step.TheVariants.{On, Stop}
+use Rattle.sheet_reading.specs.declared.cursor.RangeStart.{RangeStart}
 use Rattle.sheet_reading.proofs.Checking.{Checking, check_begin, here}
 use Rattle.sheet_reading.proofs.Tracked.{first_ranged, first_single}
 use Rattle.sheet_reading.specs.Tracking.{SetsHold, Tracks, Spans, StepResult, closing, on, pieces_read, stop}
@@ -69,29 +68,29 @@ set_other {line} {lo} {hi} {k} vs xs x e s h =
 
 -- ---- what a byte closes
 
-line-below : (at : ℕ) (r t : State) (b : ℕ) → transition at r b ≡ some t → r.line < 4
+line-below : (at : ℕ) (r t : State) (b : ℕ) → transition at r b ≡ Some t → r.line < 4
 unfolding transition
 line-below at r t b e = go (ltb r.line 4) refl e
   where
-    go : (u : Bool) → ltb r.line 4 ≡ u → cond u (transition_by at r (kind_of b)) none ≡ some t → r.line < 4
+    go : (u : Bool) → ltb r.line 4 ≡ u → cond u (transition_by at r (kind_of b)) None ≡ Some t → r.line < 4
     go true p e = ltb-true r.line 4 p
     go false p e = let z : ◌≡◌ {A = ℕ} 0 1 = cc in absurd (omega arith)
 
-same_some : {a b : State} → some a ≡ some b → a ≡ b
+same_some : {a b : State} → Some a ≡ Some b → a ≡ b
 same_some e = cc
 
-closed-by : {b : ℕ} (at : ℕ) (r t : State) → Closer b → allowed_digits r.count ≡ true → transition at r b ≡ some t
+closed-by : {b : ℕ} (at : ℕ) (r t : State) → Closer b → allowed_digits r.count ≡ true → transition at r b ≡ Some t
     → t.pieces ≡ r.pieces ++ (piece_read r ∷ [])
 closed-by {b} at r t c a e =
     ap (λ (q : State). q.pieces) (same_some (sym e ∙ (close_step at r c (line-below at r t b e) a).goes))
     ∙ closed-pieces c r.line (r.pieces ++ (piece_read r ∷ [])) (at + 1)
 
-some_of : {x q : State} (u : Bool) → cond u (some x) none ≡ some q → (u ≡ true) × (x ≡ q)
+some_of : {x q : State} (u : Bool) → cond u (Some x) None ≡ Some q → (u ≡ true) × (x ≡ q)
 some_of true e = (refl, cc)
 some_of false e = let z : ◌≡◌ {A = ℕ} 0 1 = cc in absurd (omega arith)
 
 kept_by : {b : ℕ} {k : ByteKind} (at : ℕ) (r t : State) → HasKind b k → (Closer b → allowed_digits r.count ≡ false)
-    → transition_by at r k ≡ some t → t.pieces ≡ r.pieces
+    → transition_by at r k ≡ Some t → t.pieces ≡ r.pieces
 unfolding transition_by
 kept_by at r t (is_digit x) f e = ap (λ (q : State). q.pieces) (sym (some_of (ltb r.count 6) e).1)
 kept_by at r t is_comma f e = absurd (true≢false (sym (some_of (allowed_digits r.count) e).0 ∙ f comma_closes))
@@ -99,13 +98,13 @@ kept_by at r t is_dash f e = ap (λ (q : State). q.pieces) (sym (some_of (is_non
 kept_by at r t is_newline f e = go _ (allowed_digits r.count) (f newline_closes) e
   where
     go : (x : State) (u : Bool) → u ≡ false
-        → cond u (some x) (cond r.fresh (some (before_piece (suc r.line) true r.pieces (at + 1))) none) ≡ some t
+        → cond u (Some x) (cond r.fresh (Some (before_piece (suc r.line) true r.pieces (at + 1))) None) ≡ Some t
         → t.pieces ≡ r.pieces
     go x false p e = ap (λ (q : State). q.pieces) (sym (some_of r.fresh e).1)
     go x true p e = absurd (true≢false p)
 kept_by at r t is_other f e = let z : ◌≡◌ {A = ℕ} 0 1 = cc in absurd (omega arith)
 
-step_kept : (at : ℕ) (r t : State) (b : ℕ) → (Closer b → allowed_digits r.count ≡ false) → transition at r b ≡ some t
+step_kept : (at : ℕ) (r t : State) (b : ℕ) → (Closer b → allowed_digits r.count ≡ false) → transition at r b ≡ Some t
     → t.pieces ≡ r.pieces
 step_kept at r t b f e = kept_by at r t (kind b) f (sym (transition_in at r b (kind_of b) (line-below at r t b e) refl) ∙ e)
 
@@ -117,7 +116,7 @@ closer_true : {b : ℕ} → Closer b → (eqb b 0x2C || eqb b 0x0A) ≡ true
 closer_true comma_closes = refl
 closer_true newline_closes = refl
 
-module _ (c : Cursor) (at : ℕ) (r t : State) (h : Tracks c r) (b : ℕ) (e : transition at r b ≡ some t) where
+module _ (c : Cursor) (at : ℕ) (r t : State) (h : Tracks c r) (b : ℕ) (e : transition at r b ≡ Some t) where
   pub closed_sets : (q : Policy) {u : Bool} → u ≡ closing b c.count → u ≡ true → SetsHold (r.pieces ++ (piece_read r ∷ [])) q
       → SetsHold t.pieces q
   unfolding closing
@@ -147,16 +146,16 @@ pub record Taking (s : List ℕ) (c : Cursor) (p : Policy) (at : ℕ) : Type 0 w
   pub checking : Checking s c at
   pub sets : SetsHold checking.state.pieces p
 
-pub take_on : {s : List ℕ} {c x : Cursor} {at : ℕ} {p q : Policy} {y : Step} (k : Taking s c p at) → at < length s
-    → StepResult (transition at k.checking.state (get_or s at 0)) y → y ≡ On x
-    → ((n : ℕ) (r t : State) → Tracks c r → transition n r (get_or s at 0) ≡ some t → SetsHold r.pieces p → SetsHold t.pieces q)
+pub take_on : {s : List ℕ} {c x : Cursor} {at : ℕ} {p q : Policy} {y : Option Cursor} (k : Taking s c p at) → at < length s
+    → StepResult (transition at k.checking.state (get_or s at 0)) y → y ≡ Some x
+    → ((n : ℕ) (r t : State) → Tracks c r → transition n r (get_or s at 0) ≡ Some t → SetsHold r.pieces p → SetsHold t.pieces q)
     → Taking s x q (at + 1)
 take_on {s} {c} {x} {at} {p} {q} k l t e f = go refl t e
   where
-    as-cursor : {a b : Cursor} → On a ≡ On b → a ≡ b
+    as-cursor : {a b : Cursor} → Some a ≡ Some b → a ≡ b
     as-cursor e = cc
 
-    go : {o : Option State} {y : Step} → transition at k.checking.state (get_or s at 0) ≡ o → StepResult o y → y ≡ On x
+    go : {o : Option State} {y : Option Cursor} → transition at k.checking.state (get_or s at 0) ≡ o → StepResult o y → y ≡ Some x
         → Taking s x q (at + 1)
     go w (on {q = z} h) e = record {
       checking = record {
@@ -170,8 +169,8 @@ take_on {s} {c} {x} {at} {p} {q} k l t e f = go refl t e
     }
     go w stop e = let z : ◌≡◌ {A = ℕ} 0 1 = cc in absurd (omega arith)
 
-pub take_stop : {s : List ℕ} {c : Cursor} {at : ℕ} {p : Policy} {y : Step} (k : Taking s c p at) → at < length s
-    → StepResult (transition at k.checking.state (get_or s at 0)) y → y ≡ Stop → SetsHold (pieces_read s) p
+pub take_stop : {s : List ℕ} {c : Cursor} {at : ℕ} {p : Policy} {y : Option Cursor} (k : Taking s c p at) → at < length s
+    → StepResult (transition at k.checking.state (get_or s at 0)) y → y ≡ None → SetsHold (pieces_read s) p
 unfolding pieces_read pieces_of
 take_stop {s} {c} {at} {p} k l t e =
     subst (λ (x : RunResult). SetsHold (pieces_of x) p)
@@ -179,8 +178,8 @@ take_stop {s} {c} {at} {p} k l t e =
     ∙ run-stops at k.checking.state (get_or s at 0) (drop (at + 1) s) (go refl t e)))
     k.sets
   where
-    go : {o : Option State} {y : Step} → transition at k.checking.state (get_or s at 0) ≡ o → StepResult o y → y ≡ Stop
-        → transition at k.checking.state (get_or s at 0) ≡ none
+    go : {o : Option State} {y : Option Cursor} → transition at k.checking.state (get_or s at 0) ≡ o → StepResult o y → y ≡ None
+        → transition at k.checking.state (get_or s at 0) ≡ None
     go w (on h) e = let z : ◌≡◌ {A = ℕ} 0 1 = cc in absurd (omega arith)
     go w stop e = w
 
@@ -196,23 +195,11 @@ take_begin s h g = record { checking = check_begin s h; sets = g }
 
 -- ---- small functions
 
-pub first_ranged_value : (c : Cursor) (r : State) → Tracks c r → c.ranged ≡ true → c.first_value ≡ (piece_read r).first.value
+pub first_ranged_value : {p : RangeStart} (c : Cursor) (r : State) → Tracks c r → c.first ≡ Some p → p.value ≡ (piece_read r).first.value
 first_ranged_value c r h e = sym (ap (λ (x : Point). x.value) (first_ranged c r h e))
 
-pub first_single_value : (c : Cursor) (r : State) → Tracks c r → c.ranged ≡ false → c.value ≡ (piece_read r).first.value
+pub first_single_value : (c : Cursor) (r : State) → Tracks c r → c.first ≡ None → c.value ≡ (piece_read r).first.value
 first_single_value c r h e = h.value ∙ sym (ap (λ (x : Point). x.value) (first_single c r h e))
-
-pub closing_comma : {u : Bool} (b n : ℕ) → b ≡ 0x2C → u ≡ allowed_digits n → u ≡ closing b n
-unfolding closing
-closing_comma b n e f = f ∙ sym (rw (eq-eqb b 0x2C e))
-
-pub closing_newline : {u : Bool} (b n : ℕ) → b ≡ 0x0A → u ≡ allowed_digits n → u ≡ closing b n
-unfolding closing
-closing_newline b n e f = f ∙ sym (ap (λ (x : ℕ). (eqb x 0x2C || eqb x 0x0A) && allowed_digits n) e)
-
-pub closing-none : (b n : ℕ) → (b ≡ 0x2C → ⊥) → (b ≡ 0x0A → ⊥) → false ≡ closing b n
-unfolding closing
-closing-none b n e f = sym (rw (ne_eqb b 0x2C e, ne_eqb b 0x0A f))
 
 pub no_sets : (p : Policy) → Holds (λ (i : ℕ). false) p.prefer_bare.chars.bits
     → Holds (λ (i : ℕ). false) p.prefer_bare.keycap_chars.bits

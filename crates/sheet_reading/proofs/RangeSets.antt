@@ -1,4 +1,6 @@
 -- The variation entries of a range, by their indexes.
+use Rattle.std.specs.List.Sorted.{IsPartitionPoint, IsPartitionedBy}
+use Rattle.std.proofs.lemmas.List.{get_or_default}
 use mathlib.Core.Path.{◌≡◌, refl, ap, ap₂, sym, ◌∙◌}
 use mathlib.Core.Logic.{⊎_elim}
 use mathlib.Core.Bool.{Bool, true, false, ◌&&◌, ◌||◌}
@@ -8,7 +10,7 @@ use native.Mathlib.Nat.{pow-suc}
 use native.Mathlib.Omega.{arith}
 use lib.Dec.{eqb, ltb}
 use lib.ListN.{get_or, length}
-use borrow.Author.Tests.{le-ltb, lt-ltb}
+use borrow.Author.Tests.{le-ltb, lt-ltb, ltb-true}
 use Rattle.base.specs.Bits.{one}
 use Rattle.base.specs.Ranges.{within}
 use Rattle.base.proofs.Bits.{low_bit, next_bit, zero_one}
@@ -22,46 +24,28 @@ use Rattle.policy_key_set.proofs.Members.{held, holds_same, member-past}
 
 -- ---- the search
 
--- The entries before lo are below the code point, and those from hi on are not.
-pub record Searching (ch lo hi : ℕ) : Type 0 where
-  pub rest : lo ≤ hi
-  pub inside : hi ≤ 354
-  pub below : (i : ℕ) → i < lo → get_or variation_entries i 0 < ch
-  pub above : (i : ℕ) → hi ≤ i → i < 354 → ch ≤ get_or variation_entries i 0
+module _ (ch : ℕ) where
+  abbrev pub is_below : ℕ → Bool
+  is_below e = ltb e ch
 
-pub search_begin : (ch : ℕ) → Searching ch 0 354
-search_begin ch = record {
-  rest = omega arith;
-  inside = omega arith;
-  below = λ i h. absurd (omega arith);
-  above = λ i h l. absurd (omega arith);
-}
+  -- The entries below the code point come first.
+  pub parted-entries : IsPartitionedBy is_below variation_entries
+  parted-entries i j d h l t =
+      let k : i < length variation_entries = omega arith in
+      let q = ltb-true (get_or variation_entries j d) ch t in
+      lt-ltb (get_or variation_entries i d) ch
+      (omega (
+        arith,
+        get_or_default variation_entries i d 0 k,
+        get_or_default variation_entries j d 0 l,
+        ascending_le variation_entries variation_entries_ascend i j h l,
+      ))
 
-ascends : (i j : ℕ) → i ≤ j → j < 354 → get_or variation_entries i 0 ≤ get_or variation_entries j 0
-ascends i j h l = ascending_le variation_entries variation_entries_ascend i j h (omega (arith, entries_length))
-
-pub search_up : {ch lo hi c : ℕ} (m : ℕ) → Searching ch lo hi → lo ≤ m → m < hi → c ≡ get_or variation_entries m 0 → c < ch
-    → Searching ch (m + 1) hi
-search_up m s h l e b = record {
-  rest = omega arith;
-  inside = s.inside;
-  below = λ i k. omega (arith, ascends i m (omega arith) (omega (arith, s.inside)));
-  above = s.above;
-}
-
-pub search_down : {ch lo hi c : ℕ} (m : ℕ) → Searching ch lo hi → lo ≤ m → m < hi → c ≡ get_or variation_entries m 0 → ch ≤ c
-    → Searching ch lo m
-search_down m s h l e b = record {
-  rest = h;
-  inside = omega (arith, s.inside);
-  below = s.below;
-  above = λ i k j. omega (arith, ascends m i k j);
-}
-
-pub search_ends : {ch lo hi : ℕ} → Searching ch lo hi → hi ≤ lo → (i : ℕ) → i < 354 → ltb i lo ≡ ltb (get_or variation_entries i 0) ch
-search_ends {ch} {lo} {hi} s h i l =
-    ⊎_elim (λ k. le-ltb i lo k ∙ sym (le-ltb (get_or variation_entries i 0) ch (s.above i (omega arith) l)))
-    (λ k. lt-ltb i lo k ∙ sym (lt-ltb (get_or variation_entries i 0) ch (s.below i k))) (le_or_lt lo i)
+  pub point_below : {n : ℕ} → IsPartitionPoint (λ (e : ℕ). is_below e ≡ true) (λ (e : ℕ). is_below e ≡ false) variation_entries n
+      → (i : ℕ) → i < 354 → ltb i n ≡ ltb (get_or variation_entries i 0) ch
+  point_below {n} p i l =
+      ⊎_elim (λ k. le-ltb i n k ∙ sym (p.1 i 0 k (omega (arith, entries_length)))) (λ k. lt-ltb i n k ∙ sym (p.0 i 0 (omega arith) k))
+      (le_or_lt n i)
 
 -- ---- words of ones
 

@@ -1,7 +1,6 @@
 // The sets that the pieces of a sheet mean. `with_closed` adds a piece to the policy. The sets then hold what `in_set` (crate policy_sheet,
 // specs/Meaning.antt) says of the pieces.
-ghost use Rattle.std.specs.Prelude.{◌≡◌, Bool, ◌||◌, List, [], ◌∷◌, ◌++◌, ℕ, ◌+◌, ◌<◌, ◌≤◌, ◌^◌, ltb, get_or};
-ghost use Rattle.std.proofs.Math.Option.{some};
+ghost use Rattle.std.specs.Prelude.{◌≡◌, Bool, ◌||◌, List, [], ◌∷◌, ◌++◌, ℕ, ◌+◌, ◌<◌, ◌≤◌, ltb, get_or, length, Some};
 ghost use Rattle.base.specs.Bits.{one};
 ghost use Rattle.base.specs.Ranges.{within};
 ghost use Rattle.emoji.specs.UnicodeData.{variation_entries};
@@ -13,30 +12,18 @@ ghost use Rattle.policy_sheet.specs.Reader.{State, piece_read, transition};
 ghost use Rattle.sheet_reading.specs.Tracking.{SetsHold, Spans, Tracks, closing};
 
 use crate::cursor::{Cursor, is_allowed};
-use emoji::unicode_data::VARIATION_ENTRY_COUNT;
-use emoji::variation_char;
+use emoji::unicode_data::VARIATION_ENTRIES;
 use policy::Policy;
 use policy_key_set::PolicyKeySet;
 use policy_key_set::char_set::CharSet;
 use policy_key_set::named_sets::CHARSET_WORDS;
 
-// Returns the number of variation entries below a code point, by a binary search.
+// Returns the number of variation entries below a code point.
 fn entries_below(ch: u64) -> usize
     ensures few { result ≤ 354 }
     ensures below { (i : ℕ) → i < 354 → ltb i result ≡ ltb (get_or variation_entries i 0) ch }
 {
-    let mut lo: usize = 0;
-    let mut hi = VARIATION_ENTRY_COUNT;
-    while lo < hi {
-        let mid = lo + (hi - lo) / 2;
-        let current = variation_char(mid) as u64;
-        if current < ch {
-            lo = mid + 1;
-        } else {
-            hi = mid;
-        }
-    }
-    lo
+    VARIATION_ENTRIES.partition_point(|&entry| (entry as u64) < ch)
 }
 
 // Returns the word whose bit k is 1 if start + k is below n.
@@ -58,13 +45,11 @@ fn first_entries(n: usize) -> CharSet
     requires { n ≤ 354 }
     ensures { Holds (λ (i : ℕ). ltb i n) result.bits }
 {
-    let mut z = [0u64; CHARSET_WORDS];
-    let mut i = 0;
-    while i < CHARSET_WORDS {
-        z[i] = bits_below(n, 64 * i);
-        i += 1;
+    let mut bits = [0; CHARSET_WORDS];
+    for i in 0..CHARSET_WORDS {
+        bits[i] = bits_below(n, 64 * i);
     }
-    CharSet { bits: z }
+    CharSet { bits }
 }
 
 // Adds the variation entries of a range to a set. The time does not depend on the range.
@@ -74,7 +59,7 @@ fn with_range(set: CharSet, lo: u32, hi: u32) -> CharSet
 {
     let below = first_entries(entries_below(lo as u64));
     let up_to = first_entries(entries_below(hi as u64 + 1));
-    CharSet::bitor(set, CharSet::sub(up_to, below))
+    set | (up_to - below)
 }
 
 // Adds a piece to set k, if the piece is in line k.
@@ -92,46 +77,42 @@ fn with_piece_in(set: CharSet, k: u32, line: u32, lo: u32, hi: u32) -> CharSet
 fn with_piece(p: Policy, line: u32, lo: u32, hi: u32) -> Policy
     ensures { (xs : List Piece) (x : Piece) → Spans x line lo hi → SetsHold xs p → SetsHold (xs ++ (x ∷ [])) result }
 {
-    let prefer_bare = p.prefer_bare;
-    let bare_as_text = p.bare_as_text;
     Policy {
         prefer_bare: PolicyKeySet {
-            chars: with_piece_in(prefer_bare.chars, 0, line, lo, hi),
-            keycap_chars: with_piece_in(prefer_bare.keycap_chars, 1, line, lo, hi),
+            chars: with_piece_in(p.prefer_bare.chars, 0, line, lo, hi),
+            keycap_chars: with_piece_in(p.prefer_bare.keycap_chars, 1, line, lo, hi),
         },
         bare_as_text: PolicyKeySet {
-            chars: with_piece_in(bare_as_text.chars, 2, line, lo, hi),
-            keycap_chars: with_piece_in(bare_as_text.keycap_chars, 3, line, lo, hi),
+            chars: with_piece_in(p.bare_as_text.chars, 2, line, lo, hi),
+            keycap_chars: with_piece_in(p.bare_as_text.keycap_chars, 3, line, lo, hi),
         },
     }
 }
 
 // Tests whether a byte closes a piece whose last number has the digits.
+#[tactic(auto, unfolding(crate::specs::Tracking::closing))]
 fn is_closing(b: u8, count: u32) -> bool
     ensures { result ≡ closing b count }
 {
-    if b == 0x2C {
-        return is_allowed(count);
+    match b {
+        b',' | b'\n' => is_allowed(count),
+        _ => false,
     }
-    if b == 0x0A {
-        return is_allowed(count);
-    }
-    false
 }
 
 // Returns the first code point of the piece that was read.
 fn first_of(c: Cursor) -> u32
     ensures { (r : State) → Tracks c r → result ≡ (piece_read r).first.value }
 {
-    if c.ranged {
-        return c.first_value;
+    match c.first {
+        Some(first) => first.value,
+        None => c.value,
     }
-    c.value
 }
 
 // Adds the piece that a byte closes, if it closes one, to the policy.
 pub(crate) fn with_closed(p: Policy, c: Cursor, b: u8) -> Policy
-    ensures { (at : ℕ) (r t : State) → Tracks c r → transition at r b ≡ some t → SetsHold r.pieces p
+    ensures { (at : ℕ) (r t : State) → Tracks c r → transition at r b ≡ Some t → SetsHold r.pieces p
         → SetsHold t.pieces result }
 {
     if is_closing(b, c.count) {
@@ -146,46 +127,23 @@ pub(crate) fn no_pieces() -> Policy
     ensures { SetsHold [] result }
 {
     Policy {
-        prefer_bare: PolicyKeySet {
-            chars: CharSet::none(),
-            keycap_chars: CharSet::none(),
-        },
-        bare_as_text: PolicyKeySet {
-            chars: CharSet::none(),
-            keycap_chars: CharSet::none(),
-        },
+        prefer_bare: PolicyKeySet::none(),
+        bare_as_text: PolicyKeySet::none(),
     }
 }
 
-// States that a word has 64 bits. The prover knows it of every parameter of this type.
-fn is_word(w: u64) -> bool
-    ensures { w < 2 ^ 64 }
-{
-    true
-}
-
-// States that a set has six words of 64 bits.
-fn is_set(set: CharSet) -> bool
-    ensures { SetValue set.bits }
-{
-    let words = set.bits;
-    let mut i = 0;
-    while i < CHARSET_WORDS {
-        is_word(words[i]);
-        i += 1;
-    }
-    true
-}
+// States that the six words of a set have 64 bits. The prover knows it of every parameter of this type.
+fn is_set(words: &[u64])
+    requires { length words.now ≡ 6 }
+    ensures { SetValue words.now }
+{}
 
 // States that a policy has four such sets.
-pub(crate) fn is_value(p: Policy) -> bool
+pub(crate) fn is_value(p: Policy)
     ensures { PolicyValue p }
 {
-    let prefer_bare = p.prefer_bare;
-    let bare_as_text = p.bare_as_text;
-    is_set(prefer_bare.chars);
-    is_set(prefer_bare.keycap_chars);
-    is_set(bare_as_text.chars);
-    is_set(bare_as_text.keycap_chars);
-    true
+    is_set(&p.prefer_bare.chars.bits);
+    is_set(&p.prefer_bare.keycap_chars.bits);
+    is_set(&p.bare_as_text.chars.bits);
+    is_set(&p.bare_as_text.keycap_chars.bits);
 }

@@ -7,32 +7,12 @@ use native.Mathlib.Numerals.{add-one}
 use lib.ListN.{drop, drop_of_length-le, get_or, length, length-append, length-set, set}
 use lib.Seq.{drop-cons, length-sets}
 use native.Mathlib.Omega.{arith}
-use borrow.Author.Tests.{le-ltb, lt-ltb}
 use Rattle.base.specs.Output.{PutAt}
 use Rattle.base.proofs.Writer.{put_as, put_then}
 use Rattle.policy_key_set.specs.Display.{hex_digits}
 use Rattle.policy_key_set.proofs.Texts.{hex_length}
 use Rattle.policy_sheet.specs.Writer.{fewest_digits, first_in, point_text}
 use Rattle.sheet_writing.specs.OnePass.{entry_text, with_comma, line_from}
-
-pub fewest-two : (c : ℕ) → c < 0x100 → 2 ≡ fewest_digits c
-unfolding fewest_digits
-fewest-two c h = sym (rw (lt-ltb c 0x100 h))
-
-pub fewest_four : (c : ℕ) → 0x100 ≤ c → c < 0x10000 → 4 ≡ fewest_digits c
-unfolding fewest_digits
-fewest_four c l h = sym (rw (le-ltb c 0x100 l, lt-ltb c 0x10000 h))
-
-pub fewest_five : (c : ℕ) → 0x10000 ≤ c → c < 0x100000 → 5 ≡ fewest_digits c
-unfolding fewest_digits
-fewest_five c l h = sym (rw (le-ltb c 0x100 (omega arith), le-ltb c 0x10000 l, lt-ltb c 0x100000 h))
-
-pub fewest-six : (c : ℕ) → 0x100000 ≤ c → 6 ≡ fewest_digits c
-unfolding fewest_digits
-fewest-six c l = sym (rw (le-ltb c 0x100 (omega arith), le-ltb c 0x10000 (omega arith), le-ltb c 0x100000 l))
-
-pub point_room : (start width c n : ℕ) → width ≡ fewest_digits c → start + length (point_text c) ≤ n → start + width ≤ n
-point_room start width c n e h = omega (arith, e, hex_length (fewest_digits c) c)
 
 pub point_put : {o o' : List ℕ} {s r : ℕ} (width c : ℕ) → width ≡ fewest_digits c → PutAt o s (hex_digits width c) o' r
     → PutAt o s (point_text c) o' r

@@ -1,29 +1,36 @@
 -- The outcome of writing a sheet: a law for each answer.
-use mathlib.Core.Path.{◌≡◌, ap, ap₂, sym, ◌∙◌}
-use mathlib.Core.Bool.{true, false}
+use Rattle.std.specs.Prelude.{Err, None, Ok, Result, Some}
+use mathlib.Core.Path.{◌≡◌, ap, ap₂, refl, sym, ◌∙◌}
+use mathlib.Core.Bool.{Bool, cond, true, false}
 use mathlib.Core.List.{List}
 use Prim.Native.Nat.{ℕ}
 use Rattle.base.specs.Output.{Wrote}
-use Rattle.base.specs.Refusals.{After, unwritten}
+use Rattle.base.specs.Refusals.{After, or_else, unwritten}
 use Rattle.base.specs.declared.Refusal.{Refusal}
-use Rattle.base.specs.declared.WriteAnswer.{WriteAnswer}
-use Rattle.policy.specs.PolicyBytes.{is_policy, policy_fault, policy_refusal, read_policy}
-use Rattle.policy.specs.declared.ReadPolicy.{ReadPolicy}
-use Rattle.policy_sheet.specs.Calls.{sheet_answer, write_call, write_result}
+use Rattle.policy.specs.PolicyBytes.{is_policy, policy_fault, policy_of, policy_or_fault, policy_refusal}
+use Rattle.policy.specs.declared.Policy.{Policy}
+use Rattle.policy_sheet.specs.Calls.{write_call, write_result}
 use Rattle.policy_sheet.specs.Writer.{write_sheet}
-use Rattle.policy_sheet.specs.declared.SheetAnswer.{SheetAnswer}
-use Rattle.policy_sheet.specs.declared.SheetAnswer.TheVariants.{Refused}
 
 module _ (policy out : List ℕ) where
-  pub write_2 : {r : Refusal} → is_policy policy ≡ false → r ≡ policy_fault policy
-      → ◌≡◌ {A = After SheetAnswer ℕ} (unwritten (Refused r) out) (write_call policy out)
-  unfolding write_call policy_refusal
-  write_2 e q = ap (λ (r : Refusal). unwritten (Refused r) out) q ∙ sym (simp e)
+  abbrev after_read : Result Policy Refusal → After (Result ℕ Refusal) ℕ
+  after_read (Ok p) = write_result (write_sheet p) out
+  after_read (Err r) = unwritten (Err r) out
 
-  pub write_done : {o : List ℕ} {p : ReadPolicy} {w : WriteAnswer} {r : SheetAnswer} → is_policy policy ≡ true → p ≡ read_policy policy
-      → Wrote (write_sheet p.policy) out o w → r ≡ sheet_answer w
-      → ◌≡◌ {A = After SheetAnswer ℕ} (record { answer = r; buffer = o }) (write_call policy out)
-  unfolding write_call policy_refusal read_policy
-  write_done {o} {p} {w} {r} e f h g =
-      ap₂ (λ (a : SheetAnswer) (b : List ℕ). record { answer = a; buffer = b }) (g ∙ ap sheet_answer h.answered.same) h.buffer
-      ∙ ap (λ (x : ReadPolicy). write_result (write_sheet x.policy) out) f ∙ sym (simp e)
+  by_read : write_call policy out ≡ after_read (policy_or_fault policy)
+  unfolding write_call policy_refusal policy_or_fault
+  by_read = go (is_policy policy)
+    where
+      go : (t : Bool) → or_else (cond t None (Some (policy_fault policy))) (λ (r : Refusal). unwritten (Err r) out)
+          (write_result (write_sheet (policy_of policy)) out) ≡ after_read (cond t (Ok (policy_of policy)) (Err (policy_fault policy)))
+      go true = refl
+      go false = refl
+
+  pub write-refused : {r : Refusal} → policy_or_fault policy ≡ Err r → unwritten (Err r) out ≡ write_call policy out
+  write-refused e = sym (by_read ∙ ap after_read e)
+
+  pub write_done : {o : List ℕ} {p : Policy} {r : Result ℕ Refusal} → policy_or_fault policy ≡ Ok p → Wrote (write_sheet p) out o r
+      → ◌≡◌ {A = After (Result ℕ Refusal) ℕ} (record { answer = r; buffer = o }) (write_call policy out)
+  write_done e h =
+      ap₂ (λ (a : Result ℕ Refusal) (b : List ℕ). record { answer = a; buffer = b }) h.answered.same h.buffer
+      ∙ sym (by_read ∙ ap after_read e)

@@ -1,4 +1,6 @@
 -- A store that was begun: its reserves, the length of its bytes, and the bytes at the front of the buffer.
+use Rattle.base.specs.declared.Refusal.{Refusal}
+use Rattle.std.specs.Prelude.{Ok, Err, Result}
 use mathlib.Core.Path.{◌≡◌, refl, ap, ◌∙◌}
 use mathlib.Core.Bool.{Bool, true, false, cond, not, ◌&&◌}
 use mathlib.Core.List.{List}
@@ -15,8 +17,6 @@ use Rattle.base.specs.Refusals.{After, unwritten, written}
 use Rattle.base.specs.declared.Refusal.TheVariants.{BadClientOrNumber, DoesNotFit, OutputTooShort}
 use Rattle.policy.specs.PolicyBytes.{numbers_of}
 use Rattle.policy.proofs.Bytes.{length_words_from}
-use Rattle.store.specs.declared.StoreAnswer.{StoreAnswer}
-use Rattle.store.specs.declared.StoreAnswer.TheVariants.{Done, Refused}
 use Rattle.store.specs.Store.{clients, new_store, reserve}
 use Rattle.store.specs.Bytes.{begin_call, new_bytes, new_words, store_bytes}
 
@@ -36,11 +36,11 @@ module _ (C : ℕ) (rb st : List ℕ) where
   abbrev rs : List ℕ
   rs = numbers_of rb
 
-  abbrev pub by_tests_lem : (long whole fit : Bool) → After StoreAnswer ℕ
+  abbrev pub by_tests_lem : (long whole fit : Bool) → After (Result ℕ Refusal) ℕ
   by_tests_lem long whole fit =
-      cond (not long) (unwritten (Refused (OutputTooShort store_bytes)) st)
-      (cond (not whole) (unwritten (Refused BadClientOrNumber) st)
-      (cond (not fit) (unwritten (Refused (DoesNotFit C)) st) (written (Done store_bytes) (new_bytes C rs) st)))
+      cond (not long) (unwritten (Err (OutputTooShort store_bytes)) st)
+      (cond (not whole) (unwritten (Err BadClientOrNumber) st)
+      (cond (not fit) (unwritten (Err (DoesNotFit C)) st) (written (Ok store_bytes) (new_bytes C rs) st)))
 
   -- The reserves are whole numbers, of at most 16 clients.
   abbrev pub Whole : Bool
@@ -60,11 +60,11 @@ module _ (C : ℕ) (rb st : List ℕ) where
     pub fit : sum_below clients (reserve (new_store C rs)) ≤ C
     pub bytes : take store_bytes (begin_call C rb st).buffer ≡ new_bytes C rs
 
-  pub begun : (begin_call C rb st).answer ≡ Done store_bytes → Begun
+  pub begun : (begin_call C rb st).answer ≡ Ok store_bytes → Begun
   unfolding begin_call
   begun e = go (leb store_bytes (length st)) Whole refl Fit refl e refl
     where
-      go : (a w : Bool) → Whole ≡ w → (f : Bool) → Fit ≡ f → (by_tests_lem a w f).answer ≡ Done store_bytes
+      go : (a w : Bool) → Whole ≡ w → (f : Bool) → Fit ≡ f → (by_tests_lem a w f).answer ≡ Ok store_bytes
           → begin_call C rb st ≡ by_tests_lem a w f → Begun
       go false w p f q e g = let z : ◌≡◌ {A = ℕ} 0 1 = cc in absurd (omega arith)
       go true false p f q e g = let z : ◌≡◌ {A = ℕ} 0 1 = cc in absurd (omega arith)
@@ -76,6 +76,6 @@ module _ (C : ℕ) (rb st : List ℕ) where
             few = m;
             fit = leb-true (sum_below clients (λ (c : ℕ). get_or rs c 0)) C q;
             bytes =
-                ap (λ (x : After StoreAnswer ℕ). take store_bytes x.buffer) z
+                ap (λ (x : After (Result ℕ Refusal) ℕ). take store_bytes x.buffer) z
                 ∙ take_at (new_bytes C rs) (drop (length (new_bytes C rs)) st) store_bytes (new_bytes_length C rs m);
           }

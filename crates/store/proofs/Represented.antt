@@ -1,4 +1,6 @@
 -- A call on the bytes of a store answers and leaves what the call on the store does.
+use Rattle.base.specs.declared.Refusal.{Refusal}
+use Rattle.std.specs.Prelude.{Ok, Err, Some, None, Result, Option}
 use mathlib.Core.Path.{◌≡◌, refl, ap, ap₂, sym, ◌∙◌, subst}
 use mathlib.Core.Bool.{Bool, true, false, cond, not, ◌&&◌, ◌||◌, true≢false}
 use mathlib.Core.List.{List, [], ◌∷◌, ◌++◌}
@@ -13,10 +15,6 @@ use Rattle.base.specs.Refusals.{text_limit}
 use Rattle.base.specs.declared.Refusal.TheVariants.{BadClientOrNumber}
 use Rattle.base.proofs.Numbers.{length_bytes_of_lem}
 use Rattle.formatter.specs.Format.{format}
-use Rattle.formatter.specs.declared.FormatAnswer.{FormatAnswer}
-use Rattle.formatter.specs.declared.FormatAnswer.TheVariants.{Changed, Refused, Unchanged}
-use Rattle.store.specs.declared.StoreAnswer.{StoreAnswer}
-use Rattle.store.specs.declared.StoreAnswer.TheVariants as Answered
 use Rattle.store.specs.Store.{
   Filed,
   Sound,
@@ -198,13 +196,13 @@ module _ (bs : List ℕ) (s : Store) (R : Represents bs s) where
       go false e = refl
 
   -- Where 13 is not the answer, what is left is the same.
-  same_answer : (fa : FormatAnswer) (k l m : ℕ) → (t : Bool) → (t ≡ false → l ≡ m)
+  same_answer : (fa : Result (Option ℕ) Refusal) (k l m : ℕ) → (t : Bool) → (t ≡ false → l ≡ m)
       → after_format t (leb k l) l fa ≡ after_format t (leb k m) m fa
-  same_answer Unchanged k l m true h = refl
-  same_answer Unchanged k l m false h = ap (λ (x : ℕ). after_format false (leb k x) x Unchanged) (h refl)
-  same_answer (Changed j) k l m true h = refl
-  same_answer (Changed j) k l m false h = ap (λ (x : ℕ). after_format false (leb k x) x (Changed j)) (h refl)
-  same_answer (Refused r) k l m t h = refl
+  same_answer (Ok None) k l m true h = refl
+  same_answer (Ok None) k l m false h = ap (λ (x : ℕ). after_format false (leb k x) x (Ok None)) (h refl)
+  same_answer (Ok (Some j)) k l m true h = refl
+  same_answer (Ok (Some j)) k l m false h = ap (λ (x : ℕ). after_format false (leb k x) x (Ok (Some j))) (h refl)
+  same_answer (Err r) k l m t h = refl
 
   not_bad : (c n : ℕ) → bad_file s c n ≡ false → is_place c n ≡ true
   not_bad c n e = go (is_place c n) refl
@@ -234,7 +232,7 @@ module _ (bs : List ℕ) (s : Store) (R : Represents bs s) where
 
   same_release : (t : Bool) (k m : ℕ) → (t ≡ false → k ≡ m) → released_or t k ≡ released_or t m
   same_release true k m h = refl
-  same_release false k m h = ap Answered.Done (h refl)
+  same_release false k m h = ap Ok (h refl)
 
   pub release_same : (c n : ℕ) → release_answer_of bs c n ≡ release_answer s c n
   unfolding release_answer_of release_answer
@@ -254,12 +252,12 @@ module _ (bs : List ℕ) (s : Store) (R : Represents bs s) where
   output_same (file text policy c n out) = ap (output_by (format text policy out).buffer out) (file_same text policy c n out)
   output_same (release c n) = refl
 
-  pub used-same : (c : ℕ) → c < clients → used_call bs c ≡ Answered.Done (used s c)
+  pub used-same : (c : ℕ) → c < clients → used_call bs c ≡ Ok (used s c)
   unfolding used_call
   used-same c l =
-      ap₂ (λ (x y : Bool). cond (x && y) (Answered.Done (word_at (used_word c) bs)) (Answered.Refused BadClientOrNumber))
+      ap₂ (λ (x y : Bool). cond (x && y) (Ok (word_at (used_word c) bs)) (Err BadClientOrNumber))
       (eq-eqb (length bs) store_bytes R.size) (lt-ltb c clients l)
-      ∙ ap Answered.Done (R.sums c l)
+      ∙ ap Ok (R.sums c l)
 
   -- What a client uses is a number of 64 bits.
   used_wide : (t : Store) → Sound t → t.capacity < 2 ^ 64 → (c : ℕ) → c < clients → used t c < 2 ^ 64
@@ -276,7 +274,7 @@ module _ (bs : List ℕ) (s : Store) (R : Represents bs s) where
     pub next-represented : (x : Call) → Represents (next_bytes bs x) (next s x)
     unfolding file_call release_call
     next-represented (file text policy c n out) =
-        subst (λ (a : FormatAnswer). Represents (file_bytes c n k bs a) (next s x)) (sym (file_same text policy c n out))
+        subst (λ (a : Result (Option ℕ) Refusal). Represents (file_bytes c n k bs a) (next s x)) (sym (file_same text policy c n out))
         (go (file_answer s text policy c n out) refl)
       where
         k : ℕ
@@ -289,7 +287,7 @@ module _ (bs : List ℕ) (s : Store) (R : Represents bs s) where
         m = record { client = c; number = n; charge = k }
 
         more : is_refusal (file_answer s text policy c n out) ≡ false → used (next s x) c ≡ charged c (m ∷ s.filed)
-            → Represents (file_bytes c n k bs Unchanged) (with_filed s (m ∷ s.filed))
+            → Represents (file_bytes c n k bs (Ok None)) (with_filed s (m ∷ s.filed))
         more e q =
             let f = free s text policy c n out e in
             let p = place_means c n f.place in
@@ -302,21 +300,23 @@ module _ (bs : List ℕ) (s : Store) (R : Represents bs s) where
             (λ d q. charged_beside c n k s.filed d (λ z. q (sym z)))
             (λ d j q. slot_beside c n k s.filed d j q)
 
-        go : (a : FormatAnswer) → file_answer s text policy c n out ≡ a
+        go : (a : Result (Option ℕ) Refusal) → file_answer s text policy c n out ≡ a
             → Represents (file_bytes c n k bs a) (with_filed s (changed_filed s.filed (file_change m a)))
-        go Unchanged e = more (ap is_refusal e) (ap (λ (a : FormatAnswer). charged c (changed_filed s.filed (file_change m a))) e)
-        go (Changed l) e = more (ap is_refusal e) (ap (λ (a : FormatAnswer). charged c (changed_filed s.filed (file_change m a))) e)
-        go (Refused r) e = R
+        go (Ok None) e = more (ap is_refusal e) (ap (λ (a : Result (Option ℕ) Refusal). charged c (changed_filed s.filed (file_change m a)))
+            e)
+        go (Ok (Some l)) e = more (ap is_refusal e)
+            (ap (λ (a : Result (Option ℕ) Refusal). charged c (changed_filed s.filed (file_change m a))) e)
+        go (Err r) e = R
     next-represented (release c n) =
-        subst (λ (a : StoreAnswer). Represents (release_bytes c n bs a) (next s x)) (sym (release_same c n))
+        subst (λ (a : Result ℕ Refusal). Represents (release_bytes c n bs a) (next s x)) (sym (release_same c n))
         (go (release_answer s c n) refl)
       where
         x : Call
         x = release c n
 
-        go : (a : StoreAnswer) → release_answer s c n ≡ a
+        go : (a : Result ℕ Refusal) → release_answer s c n ≡ a
             → Represents (release_bytes c n bs a) (with_filed s (changed_filed s.filed (release_change c n a)))
-        go (Answered.Done k) e =
+        go (Ok k) e =
             let r = released s c n k e in
             let p = place_means c n r.0 in
             let o = charged-without c n s.filed h.placed in
@@ -326,7 +326,7 @@ module _ (bs : List ℕ) (s : Store) (R : Represents bs s) where
             v (sym (slot-taken c n s.filed))
             (λ d q. charged-other c n d q s.filed)
             (λ d j q. slot-left c n s.filed d j q)
-        go (Answered.Refused r) e = R
+        go (Err r) e = R
 
 -- ---- a new store, and lists of calls
 

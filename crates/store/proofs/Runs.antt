@@ -1,4 +1,6 @@
 -- Lists of calls: the bytes charged are the lengths filed and not yet released.
+use Rattle.base.specs.declared.Refusal.{Refusal}
+use Rattle.std.specs.Prelude.{Ok, Err, Some, None, Result, Option}
 use mathlib.Core.Path.{◌≡◌, refl, ap, sym, ◌∙◌}
 use mathlib.Core.Bool.{Bool, true, false, cond, ◌||◌}
 use mathlib.Core.List.{List, [], ◌∷◌}
@@ -7,10 +9,6 @@ use native.Mathlib.Omega.{arith}
 use lib.Dec.{eqb}
 use borrow.Author.Tests.{eq-eqb, ne_eqb}
 use Rattle.base.specs.Sums.{sum_below}
-use Rattle.formatter.specs.declared.FormatAnswer.{FormatAnswer}
-use Rattle.formatter.specs.declared.FormatAnswer.TheVariants.{Changed, Refused, Unchanged}
-use Rattle.store.specs.declared.StoreAnswer.{StoreAnswer}
-use Rattle.store.specs.declared.StoreAnswer.TheVariants as Answered
 use Rattle.store.specs.Store.{Filed, Sound, Store, charged, clients, is_at, overflow, reserve, used, without}
 use Rattle.store.specs.Calls.{
   Call,
@@ -134,15 +132,16 @@ named s (file text policy c n out ∷ xs) =
     more : {ys : List Change} → is_refusal (file_answer s text policy c n out) ≡ false → Named ys → Named (adds m ∷ ys)
     more e h = and_adds (place_means c n (free s text policy c n out e).place).0 h
 
-    go : {ys : List Change} (a : FormatAnswer) → file_answer s text policy c n out ≡ a → Named ys → Named (file_change m a ∷ ys)
-    go Unchanged e h = more (ap is_refusal e) h
-    go (Changed l) e h = more (ap is_refusal e) h
-    go (Refused r) e h = and_nothing h
+    go : {ys : List Change} (a : Result (Option ℕ) Refusal) → file_answer s text policy c n out ≡ a → Named ys
+        → Named (file_change m a ∷ ys)
+    go (Ok None) e h = more (ap is_refusal e) h
+    go (Ok (Some l)) e h = more (ap is_refusal e) h
+    go (Err r) e h = and_nothing h
 named s (release c n ∷ xs) = go (release_answer s c n) (named (next s (release c n)) xs)
   where
-    go : {ys : List Change} (a : StoreAnswer) → Named ys → Named (release_change c n a ∷ ys)
-    go (Answered.Done k) h = and_takes h
-    go (Answered.Refused r) h = and_nothing h
+    go : {ys : List Change} (a : Result ℕ Refusal) → Named ys → Named (release_change c n a ∷ ys)
+    go (Ok k) h = and_takes h
+    go (Err r) h = and_nothing h
 
 pub charges_in_all : (s : Store) (xs : List Call) → s.filed ≡ []
     → sum_below clients (used (store_after s xs)) ≡ outstanding_in_all (changes s xs)

@@ -1,4 +1,6 @@
 -- What a client uses is the sum over its numbers, and each message is short.
+use Rattle.base.specs.declared.Refusal.{Refusal}
+use Rattle.std.specs.Prelude.{Ok, Err, Some, None, Result, Option}
 use mathlib.Core.Path.{◌≡◌, refl, ap, sym, ◌∙◌, subst}
 use mathlib.Core.Bool.{Bool, true, false, cond, ◌&&◌}
 use mathlib.Core.List.{List, [], ◌∷◌}
@@ -10,10 +12,6 @@ use borrow.Author.Tests.{eq-eqb, eqb-true}
 use Rattle.base.specs.Sums.{sum_below}
 use Rattle.base.proofs.Tests.{and_both, both_true, fails}
 use Rattle.base.specs.Refusals.{text_limit}
-use Rattle.formatter.specs.declared.FormatAnswer.{FormatAnswer}
-use Rattle.formatter.specs.declared.FormatAnswer.TheVariants.{Changed, Refused, Unchanged}
-use Rattle.store.specs.declared.StoreAnswer.{StoreAnswer}
-use Rattle.store.specs.declared.StoreAnswer.TheVariants as Answered
 use Rattle.store.specs.Store.{
   Filed,
   Placed,
@@ -123,15 +121,15 @@ short-next s h (file text policy c n out) = go (file_answer s text policy c n ou
         let a = ((file_claim s text policy c n out).as_format_lem e).0 in
         and_short (format_small text policy out (ap is_refusal (sym a) ∙ e)) h
 
-    go : (a : FormatAnswer) → file_answer s text policy c n out ≡ a → Short (changed_filed s.filed (file_change m a))
-    go Unchanged e = more (ap is_refusal e)
-    go (Changed l) e = more (ap is_refusal e)
-    go (Refused r) e = h
+    go : (a : Result (Option ℕ) Refusal) → file_answer s text policy c n out ≡ a → Short (changed_filed s.filed (file_change m a))
+    go (Ok None) e = more (ap is_refusal e)
+    go (Ok (Some l)) e = more (ap is_refusal e)
+    go (Err r) e = h
 short-next s h (release c n) = go (release_answer s c n)
   where
-    go : (a : StoreAnswer) → Short (changed_filed s.filed (release_change c n a))
-    go (Answered.Done k) = short-without c n s.filed h
-    go (Answered.Refused r) = h
+    go : (a : Result ℕ Refusal) → Short (changed_filed s.filed (release_change c n a))
+    go (Ok k) = short-without c n s.filed h
+    go (Err r) = h
 
 short-after : (s : Store) → Short s.filed → (xs : List Call) → Short (store_after s xs).filed
 unfolding store_after

@@ -1,4 +1,5 @@
 -- One call: a store stays sound, and what the claims on one call say.
+use Rattle.std.specs.Prelude.{Ok, Err, Some, None, Result, Option}
 use mathlib.Core.Path.{◌≡◌, refl, ap, ap₂, sym, ◌∙◌, subst}
 use mathlib.Core.Bool.{Bool, true, false, cond, not, ◌&&◌, ◌||◌, true≢false}
 use mathlib.Core.List.{List, [], ◌∷◌}
@@ -11,11 +12,7 @@ use Rattle.base.proofs.Tests.{both_false, both_true}
 use Rattle.base.specs.declared.Refusal.{Refusal}
 use Rattle.base.specs.declared.Refusal.TheVariants.{BadClientOrNumber, DoesNotFit}
 use Rattle.formatter.specs.Format.{format}
-use Rattle.formatter.specs.declared.FormatAnswer.{FormatAnswer}
-use Rattle.formatter.specs.declared.FormatAnswer.TheVariants.{Changed, Refused, Unchanged}
 use Rattle.store.proofs.Slots.{message}
-use Rattle.store.specs.declared.StoreAnswer.{StoreAnswer}
-use Rattle.store.specs.declared.StoreAnswer.TheVariants as Answered
 use Rattle.store.specs.Store.{
   Filed,
   Sound,
@@ -187,51 +184,53 @@ module _ (s : Store) (h : Sound s) (c n : ℕ) (lc : c < clients) where
 
 -- ---- answers
 
-pub accepted_means : (fa : FormatAnswer) (bad fits : Bool) (l : ℕ) → is_refusal (after_format bad fits l fa) ≡ false
+pub accepted_means : (fa : Result (Option ℕ) Refusal) (bad fits : Bool) (l : ℕ) → is_refusal (after_format bad fits l fa) ≡ false
     → (bad ≡ false) × (fits ≡ true) × (after_format bad fits l fa ≡ fa)
-accepted_means Unchanged true fits l e = absurd (true≢false e)
-accepted_means Unchanged false true l e = (refl, refl, refl)
-accepted_means Unchanged false false l e = absurd (true≢false e)
-accepted_means (Changed n) true fits l e = absurd (true≢false e)
-accepted_means (Changed n) false true l e = (refl, refl, refl)
-accepted_means (Changed n) false false l e = absurd (true≢false e)
-accepted_means (Refused r) bad fits l e = absurd (true≢false e)
+accepted_means (Ok None) true fits l e = absurd (true≢false e)
+accepted_means (Ok None) false true l e = (refl, refl, refl)
+accepted_means (Ok None) false false l e = absurd (true≢false e)
+accepted_means (Ok (Some n)) true fits l e = absurd (true≢false e)
+accepted_means (Ok (Some n)) false true l e = (refl, refl, refl)
+accepted_means (Ok (Some n)) false false l e = absurd (true≢false e)
+accepted_means (Err r) bad fits l e = absurd (true≢false e)
 
 -- The three outcomes of tests 13 and 14.
-passes : (fa : FormatAnswer) (l : ℕ) → after_format false true l fa ≡ fa
-passes Unchanged l = refl
-passes (Changed n) l = refl
-passes (Refused r) l = refl
+passes : (fa : Result (Option ℕ) Refusal) (l : ℕ) → after_format false true l fa ≡ fa
+passes (Ok None) l = refl
+passes (Ok (Some n)) l = refl
+passes (Err r) l = refl
 
-bad-refused : (fa : FormatAnswer) (fits : Bool) (l : ℕ) → is_refusal fa ≡ false → after_format true fits l fa ≡ Refused BadClientOrNumber
-bad-refused Unchanged fits l e = refl
-bad-refused (Changed n) fits l e = refl
-bad-refused (Refused r) fits l e = absurd (true≢false e)
+bad-refused : (fa : Result (Option ℕ) Refusal) (fits : Bool) (l : ℕ) → is_refusal fa ≡ false
+    → after_format true fits l fa ≡ Err BadClientOrNumber
+bad-refused (Ok None) fits l e = refl
+bad-refused (Ok (Some n)) fits l e = refl
+bad-refused (Err r) fits l e = absurd (true≢false e)
 
-short-refused : (fa : FormatAnswer) (l : ℕ) → is_refusal fa ≡ false → after_format false false l fa ≡ Refused (DoesNotFit l)
-short-refused Unchanged l e = refl
-short-refused (Changed n) l e = refl
-short-refused (Refused r) l e = absurd (true≢false e)
+short-refused : (fa : Result (Option ℕ) Refusal) (l : ℕ) → is_refusal fa ≡ false → after_format false false l fa ≡ Err (DoesNotFit l)
+short-refused (Ok None) l e = refl
+short-refused (Ok (Some n)) l e = refl
+short-refused (Err r) l e = absurd (true≢false e)
 
 -- Where a refusal comes from: from formatting, or from test 13 or test 14.
-data From (fa : FormatAnswer) (bad fits : Bool) (l : ℕ) (r : Refusal) : Type 0 where
-  from_format : fa ≡ Refused r → From fa bad fits l r
+data From (fa : Result (Option ℕ) Refusal) (bad fits : Bool) (l : ℕ) (r : Refusal) : Type 0 where
+  from_format : fa ≡ Err r → From fa bad fits l r
   from_place : r ≡ BadClientOrNumber → bad ≡ true → From fa bad fits l r
   from_room : r ≡ DoesNotFit l → fits ≡ false → From fa bad fits l r
 
-comes_from : (fa : FormatAnswer) (bad fits : Bool) (l : ℕ) (r : Refusal) → after_format bad fits l fa ≡ Refused r → From fa bad fits l r
-comes_from Unchanged true fits l r e = let q : r ≡ BadClientOrNumber = cc in from_place q refl
-comes_from Unchanged false true l r e = from_format e
-comes_from Unchanged false false l r e = let q : r ≡ DoesNotFit l = cc in from_room q refl
-comes_from (Changed n) true fits l r e = let q : r ≡ BadClientOrNumber = cc in from_place q refl
-comes_from (Changed n) false true l r e = from_format e
-comes_from (Changed n) false false l r e = let q : r ≡ DoesNotFit l = cc in from_room q refl
-comes_from (Refused q) bad fits l r e = from_format e
+comes_from : (fa : Result (Option ℕ) Refusal) (bad fits : Bool) (l : ℕ) (r : Refusal) → after_format bad fits l fa ≡ Err r
+    → From fa bad fits l r
+comes_from (Ok None) true fits l r e = let q : r ≡ BadClientOrNumber = cc in from_place q refl
+comes_from (Ok None) false true l r e = from_format e
+comes_from (Ok None) false false l r e = let q : r ≡ DoesNotFit l = cc in from_room q refl
+comes_from (Ok (Some n)) true fits l r e = let q : r ≡ BadClientOrNumber = cc in from_place q refl
+comes_from (Ok (Some n)) false true l r e = from_format e
+comes_from (Ok (Some n)) false false l r e = let q : r ≡ DoesNotFit l = cc in from_room q refl
+comes_from (Err q) bad fits l r e = from_format e
 
-output_accepted : (a : FormatAnswer) (o out : List ℕ) → is_refusal a ≡ false → output_by o out a ≡ o
-output_accepted Unchanged o out e = refl
-output_accepted (Changed l) o out e = refl
-output_accepted (Refused r) o out e = absurd (true≢false e)
+output_accepted : (a : Result (Option ℕ) Refusal) (o out : List ℕ) → is_refusal a ≡ false → output_by o out a ≡ o
+output_accepted (Ok None) o out e = refl
+output_accepted (Ok (Some l)) o out e = refl
+output_accepted (Err r) o out e = absurd (true≢false e)
 
 pub place_means : (c n : ℕ) → is_place c n ≡ true → (c < clients) × (n < numbers)
 unfolding is_place
@@ -242,7 +241,7 @@ place_means c n e =
 -- ---- a filing
 
 module _ (s : Store) (text policy : List ℕ) (c n : ℕ) (out : List ℕ) where
-  abbrev fa : FormatAnswer
+  abbrev fa : Result (Option ℕ) Refusal
   fa = (format text policy out).answer
 
   abbrev k : ℕ
@@ -264,7 +263,7 @@ module _ (s : Store) (text policy : List ℕ) (c n : ℕ) (out : List ℕ) where
       let b = both_false (not (is_place c n)) (in_use c n s.filed) a.0 in
       record { place = not-false (is_place c n) b.0; unused = b.1; room = leb-true k L a.1 }
 
-  from : (r : Refusal) → file_answer s text policy c n out ≡ Refused r → From fa (bad_file s c n) (leb k L) L r
+  from : (r : Refusal) → file_answer s text policy c n out ≡ Err r → From fa (bad_file s c n) (leb k L) L r
   unfolding file_answer
   from r e = comes_from fa (bad_file s c n) (leb k L) L r e
 
@@ -286,7 +285,7 @@ module _ (s : Store) (text policy : List ℕ) (c n : ℕ) (out : List ℕ) where
   }
     where
       only : (r : Refusal) → (r ≡ BadClientOrNumber → ⊥) → ((l : ℕ) → r ≡ DoesNotFit l → ⊥) → From fa (bad_file s c n) (leb k L) L r
-          → fa ≡ Refused r
+          → fa ≡ Err r
       only r p q (from_format e) = e
       only r p q (from_place e b) = absurd (p e)
       only r p q (from_room e f) = absurd (q L e)
@@ -315,33 +314,33 @@ module _ (s : Store) (text policy : List ℕ) (c n : ℕ) (out : List ℕ) where
       more : Free → Sound (with_filed s (message c n k ∷ s.filed))
       more f = let p = place_means c n f.place in sound_more s h c n k p.0 p.1 f.unused f.room
 
-      go : (a : FormatAnswer) → (is_refusal a ≡ false → Free)
+      go : (a : Result (Option ℕ) Refusal) → (is_refusal a ≡ false → Free)
           → Sound (with_filed s (changed_filed s.filed (file_change (message c n k) a)))
-      go Unchanged f = more (f refl)
-      go (Changed l) f = more (f refl)
-      go (Refused r) f = h
+      go (Ok None) f = more (f refl)
+      go (Ok (Some l)) f = more (f refl)
+      go (Err r) f = h
 
   -- Where the bytes of an accepted filing come from.
   pub takes : Sound s → is_refusal (file_answer s text policy c n out) ≡ false → TakesFrom s (next s (file text policy c n out)) c k
   takes h e = go (file_answer s text policy c n out) e (free e)
     where
-      go : (a : FormatAnswer) → is_refusal a ≡ false → Free
+      go : (a : Result (Option ℕ) Refusal) → is_refusal a ≡ false → Free
           → TakesFrom s (with_filed s (changed_filed s.filed (file_change (message c n k) a))) c k
-      go Unchanged r f = takes_from s h c n k (place_means c n f.place).0 f.room
-      go (Changed l) r f = takes_from s h c n k (place_means c n f.place).0 f.room
-      go (Refused r) q f = absurd (true≢false q)
+      go (Ok None) r f = takes_from s h c n k (place_means c n f.place).0 f.room
+      go (Ok (Some l)) r f = takes_from s h c n k (place_means c n f.place).0 f.room
+      go (Err r) q f = absurd (true≢false q)
 
 -- ---- a release
 
-abbrev pub released_or : Bool → ℕ → StoreAnswer
-released_or bad k = cond bad (Answered.Refused BadClientOrNumber) (Answered.Done k)
+abbrev pub released_or : Bool → ℕ → Result ℕ Refusal
+released_or bad k = cond bad (Err BadClientOrNumber) (Ok k)
 
-release_means : (t : Bool) (k m : ℕ) → released_or t k ≡ Answered.Done m → (t ≡ false) × (m ≡ k)
+release_means : (t : Bool) (k m : ℕ) → released_or t k ≡ Ok m → (t ≡ false) × (m ≡ k)
 release_means true k m e = let z : ◌≡◌ {A = ℕ} 0 1 = cc in absurd (omega arith)
 release_means false k m e = (refl, cc)
 
 module _ (s : Store) (c n : ℕ) where
-  pub released : (m : ℕ) → release_answer s c n ≡ Answered.Done m
+  pub released : (m : ℕ) → release_answer s c n ≡ Ok m
       → (is_place c n ≡ true) × (in_use c n s.filed ≡ true) × (m ≡ charge_at c n s.filed)
   unfolding release_answer
   released m e =
@@ -352,14 +351,14 @@ module _ (s : Store) (c n : ℕ) where
   sound_release : Sound s → Sound (next s (release c n))
   sound_release h = go (release_answer s c n) refl
     where
-      go : (a : StoreAnswer) → release_answer s c n ≡ a → Sound (with_filed s (changed_filed s.filed (release_change c n a)))
-      go (Answered.Done m) e = sound_less s h c n (place_means c n (released m e).0).0
-      go (Answered.Refused r) e = h
+      go : (a : Result ℕ Refusal) → release_answer s c n ≡ a → Sound (with_filed s (changed_filed s.filed (release_change c n a)))
+      go (Ok m) e = sound_less s h c n (place_means c n (released m e).0).0
+      go (Err r) e = h
 
-  pub gives_back : Sound s → (m : ℕ) → release_answer s c n ≡ Answered.Done m → GivesBack s (next s (release c n)) c m
+  pub gives_back : Sound s → (m : ℕ) → release_answer s c n ≡ Ok m → GivesBack s (next s (release c n)) c m
   gives_back h m e =
       let r = released m e in
-      subst (λ (a : StoreAnswer). GivesBack s (with_filed s (changed_filed s.filed (release_change c n a))) c m) (sym e)
+      subst (λ (a : Result ℕ Refusal). GivesBack s (with_filed s (changed_filed s.filed (release_change c n a))) c m) (sym e)
       (subst (λ (j : ℕ). GivesBack s (with_filed s (without c n s.filed)) c j) (sym r.2)
       (back s h c n (place_means c n r.0).0))
 
@@ -384,24 +383,25 @@ call_claim s (file text policy c n out) =
     k : ℕ
     k = charge_of text policy
 
-    go : (a : FormatAnswer) → is_refusal a ≡ true
+    go : (a : Result (Option ℕ) Refusal) → is_refusal a ≡ true
         → (with_filed s (changed_filed s.filed (file_change (message c n k) a)) ≡ s)
         × (output_by (format text policy out).buffer out a ≡ out)
-    go Unchanged e = absurd (true≢false (sym e))
-    go (Changed l) e = absurd (true≢false (sym e))
-    go (Refused r) e = (refl, refl)
+    go (Ok None) e = absurd (true≢false (sym e))
+    go (Ok (Some l)) e = absurd (true≢false (sym e))
+    go (Err r) e = (refl, refl)
 
-    by : (d : ℕ) → (c ≡ d → ⊥) → (a : FormatAnswer) → Others s (with_filed s (changed_filed s.filed (file_change (message c n k) a))) d
-    by d h Unchanged = (charged_beside c n k s.filed d h, in_use_beside c n k s.filed d h)
-    by d h (Changed l) = (charged_beside c n k s.filed d h, in_use_beside c n k s.filed d h)
-    by d h (Refused r) = (refl, λ j. refl)
+    by : (d : ℕ) → (c ≡ d → ⊥) → (a : Result (Option ℕ) Refusal)
+        → Others s (with_filed s (changed_filed s.filed (file_change (message c n k) a))) d
+    by d h (Ok None) = (charged_beside c n k s.filed d h, in_use_beside c n k s.filed d h)
+    by d h (Ok (Some l)) = (charged_beside c n k s.filed d h, in_use_beside c n k s.filed d h)
+    by d h (Err r) = (refl, λ j. refl)
 call_claim s (release c n) = record { refused = go (release_answer s c n); others = λ d h. by d h (release_answer s c n) }
   where
-    go : (a : StoreAnswer) → is_refused (of_release a) ≡ true
+    go : (a : Result ℕ Refusal) → is_refused (of_release a) ≡ true
         → (with_filed s (changed_filed s.filed (release_change c n a)) ≡ s) × (◌≡◌ {A = List ℕ} [] [])
-    go (Answered.Done m) e = absurd (true≢false (sym e))
-    go (Answered.Refused r) e = (refl, refl)
+    go (Ok m) e = absurd (true≢false (sym e))
+    go (Err r) e = (refl, refl)
 
-    by : (d : ℕ) → (c ≡ d → ⊥) → (a : StoreAnswer) → Others s (with_filed s (changed_filed s.filed (release_change c n a))) d
-    by d h (Answered.Done m) = (charged-other c n d (λ q. h (sym q)) s.filed, λ j. in_use-other c n d j h s.filed)
-    by d h (Answered.Refused r) = (refl, λ j. refl)
+    by : (d : ℕ) → (c ≡ d → ⊥) → (a : Result ℕ Refusal) → Others s (with_filed s (changed_filed s.filed (release_change c n a))) d
+    by d h (Ok m) = (charged-other c n d (λ q. h (sym q)) s.filed, λ j. in_use-other c n d j h s.filed)
+    by d h (Err r) = (refl, λ j. refl)

@@ -24,22 +24,23 @@ use Rattle.std.specs.Prelude.{
   get_or,
   length,
   replicate,
+  Ok,
+  Err,
+  Some,
+  None,
+  Result,
+  Option,
+  ⊤,
 }
-use Rattle.std.proofs.Math.Option.{Option, none, some}
 use Rattle.std.proofs.lemmas.List.Edits.{sets}
-use Rattle.base.specs.Answers.{Answers, done}
-use Rattle.base.specs.Refusals.{After, RefusalRow, checked, or_else, refusal_row, unwritten, written}
+use Rattle.base.specs.Answers.{Answers, optional_row}
+use Rattle.base.specs.Refusals.{After, checked, or_else, unwritten, written}
 use Rattle.base.specs.Sums.{most, sum_below}
-use Rattle.base.specs.declared.Check.{Check}
 use Rattle.base.specs.declared.Refusal.{Refusal}
 use Rattle.base.specs.declared.Refusal.TheVariants.{BadClientOrNumber, DoesNotFit, OutputTooShort}
 use Rattle.base.specs.Words.{bytes_of, word_at, word_bytes}
 use Rattle.policy.specs.PolicyBytes.{numbers_of}
-use Rattle.formatter.specs.Format.{format, format_row}
-use Rattle.formatter.specs.declared.FormatAnswer.{FormatAnswer}
-use Rattle.formatter.specs.declared.FormatAnswer.TheVariants as Formatting
-use Rattle.store.specs.declared.StoreAnswer.{StoreAnswer}
-use Rattle.store.specs.declared.StoreAnswer.TheVariants.{Done, Refused}
+use Rattle.formatter.specs.Format.{format}
 use Rattle.store.specs.Store.{Filed, Store, clients, is_at, is_place, reserve, used}
 use Rattle.store.specs.Calls.{Answer, Call, after_format, charge_of, file, of_file, of_release, output_by, release}
 
@@ -93,28 +94,28 @@ charge c n k bs = put_word (place_word c n) (k + 1) (put_word (used_word c) (wor
 -- The refusal of a charge: 13, and then 14. A charge of 2^64 - 1 bytes does not fit a word; no text has this length.
 unfoldable pub charge_refusal : List ℕ → ℕ → ℕ → ℕ → Option Refusal
 charge_refusal bs c n k =
-    cond (is_bad bs c n) (some BadClientOrNumber) (cond (leb k (left_of bs c) && ltb k most) none (some (DoesNotFit (left_of bs c))))
+    cond (is_bad bs c n) (Some BadClientOrNumber) (cond (leb k (left_of bs c) && ltb k most) None (Some (DoesNotFit (left_of bs c))))
 
 -- A charge as a call of its own: the second half of a filing.
-unfoldable pub charge_call : List ℕ → ℕ → ℕ → ℕ → After Check ℕ
+unfoldable pub charge_call : List ℕ → ℕ → ℕ → ℕ → After (Result ⊤ Refusal) ℕ
 charge_call bs c n k =
     record { answer = checked (charge_refusal bs c n k); buffer = or_else (charge_refusal bs c n k) (λ r. bs) (charge c n k bs) }
 
 -- ---- filing
 
-unfoldable pub file_answer_of : List ℕ → List ℕ → List ℕ → ℕ → ℕ → List ℕ → FormatAnswer
+unfoldable pub file_answer_of : List ℕ → List ℕ → List ℕ → ℕ → ℕ → List ℕ → Result (Option ℕ) Refusal
 file_answer_of bs text policy c n out =
     after_format (is_bad bs c n) (leb (charge_of text policy) (left_of bs c)) (left_of bs c) (format text policy out).answer
 
 -- "A refused call changes nothing in the store or the output."
-abbrev pub file_bytes : ℕ → ℕ → ℕ → List ℕ → FormatAnswer → List ℕ
-file_bytes c n k bs Formatting.Unchanged = charge c n k bs
-file_bytes c n k bs (Formatting.Changed l) = charge c n k bs
-file_bytes c n k bs (Formatting.Refused r) = bs
+abbrev pub file_bytes : ℕ → ℕ → ℕ → List ℕ → Result (Option ℕ) Refusal → List ℕ
+file_bytes c n k bs (Ok None) = charge c n k bs
+file_bytes c n k bs (Ok (Some l)) = charge c n k bs
+file_bytes c n k bs (Err r) = bs
 
 -- The answer of a filing, and what both lent buffers hold after it.
 pub record Filing : Type 0 where
-  pub answer : FormatAnswer
+  pub answer : Result (Option ℕ) Refusal
   pub store : List ℕ
   pub out : List ℕ
 
@@ -124,25 +125,25 @@ file_call bs text policy c n out =
     record { answer = a; store = file_bytes c n (charge_of text policy) bs a; out = output_by (format text policy out).buffer out a }
 
 -- Contract of filing: the answer that the definition gives, and both buffers as it says.
-pub record EndsFiled (said : Filing) (r : FormatAnswer) (store out : List ℕ) : Type 0 where
-  pub answer : Answers format_row said.answer r
+pub record EndsFiled (said : Filing) (r : Result (Option ℕ) Refusal) (store out : List ℕ) : Type 0 where
+  pub answer : Answers optional_row said.answer r
   pub store_bytes_lem : store ≡ said.store
   pub out_bytes : out ≡ said.out
 
 -- ---- releasing
 
-unfoldable pub release_answer_of : List ℕ → ℕ → ℕ → StoreAnswer
+unfoldable pub release_answer_of : List ℕ → ℕ → ℕ → Result ℕ Refusal
 release_answer_of bs c n =
-    cond (not (has_place bs c n && is_taken bs c n)) (Refused BadClientOrNumber) (Done (word_at (place_word c n) bs - 1))
+    cond (not (has_place bs c n && is_taken bs c n)) (Err BadClientOrNumber) (Ok (word_at (place_word c n) bs - 1))
 
 abbrev pub give_back : ℕ → ℕ → ℕ → List ℕ → List ℕ
 give_back c n k bs = put_word (place_word c n) 0 (put_word (used_word c) (word_at (used_word c) bs - k) bs)
 
-abbrev pub release_bytes : ℕ → ℕ → List ℕ → StoreAnswer → List ℕ
-release_bytes c n bs (Done k) = give_back c n k bs
-release_bytes c n bs (Refused r) = bs
+abbrev pub release_bytes : ℕ → ℕ → List ℕ → Result ℕ Refusal → List ℕ
+release_bytes c n bs (Ok k) = give_back c n k bs
+release_bytes c n bs (Err r) = bs
 
-unfoldable pub release_call : List ℕ → ℕ → ℕ → After StoreAnswer ℕ
+unfoldable pub release_call : List ℕ → ℕ → ℕ → After (Result ℕ Refusal) ℕ
 release_call bs c n = let a = release_answer_of bs c n in record { answer = a; buffer = release_bytes c n bs a }
 
 -- ---- beginning, and what a client uses
@@ -156,22 +157,17 @@ new_bytes capacity reserves = bytes_of (new_words capacity reserves)
 
 -- A new store is written at the front of a lent buffer. Refusals 8; 13, for reserves of more than 16 clients or bytes that are no whole
 -- number; and 14, "a new store's reserves pass C, with C". The numbers of the bytes are the reserves, from client 0 on.
-unfoldable pub begin_call : ℕ → List ℕ → List ℕ → After StoreAnswer ℕ
+unfoldable pub begin_call : ℕ → List ℕ → List ℕ → After (Result ℕ Refusal) ℕ
 begin_call capacity reserves store =
-    cond (not (leb store_bytes (length store))) (unwritten (Refused (OutputTooShort store_bytes)) store)
-    (cond (not (eqb (length reserves % 8) 0 && leb (length reserves) 128)) (unwritten (Refused BadClientOrNumber) store)
+    cond (not (leb store_bytes (length store))) (unwritten (Err (OutputTooShort store_bytes)) store)
+    (cond (not (eqb (length reserves % 8) 0 && leb (length reserves) 128)) (unwritten (Err BadClientOrNumber) store)
     (cond (not (leb (sum_below clients (λ (c : ℕ). get_or (numbers_of reserves) c 0)) capacity))
-    (unwritten (Refused (DoesNotFit capacity)) store)
-    (written (Done store_bytes) (new_bytes capacity (numbers_of reserves)) store)))
+    (unwritten (Err (DoesNotFit capacity)) store)
+    (written (Ok store_bytes) (new_bytes capacity (numbers_of reserves)) store)))
 
 -- The bytes charged to a client.
-unfoldable pub used_call : List ℕ → ℕ → StoreAnswer
-used_call bs c = cond (eqb (length bs) store_bytes && ltb c clients) (Done (word_at (used_word c) bs)) (Refused BadClientOrNumber)
-
--- The row of an answer: a success with its number of bytes, or the refusal's row.
-unfoldable pub store_row : StoreAnswer → RefusalRow
-store_row (Done n) = done n
-store_row (Refused r) = refusal_row r
+unfoldable pub used_call : List ℕ → ℕ → Result ℕ Refusal
+used_call bs c = cond (eqb (length bs) store_bytes && ltb c clients) (Ok (word_at (used_word c) bs)) (Err BadClientOrNumber)
 
 -- ---- lists of calls on a store's bytes, which are handed on from call to call, refused calls included
 

@@ -1,11 +1,30 @@
 -- The calls of a store: their answers, with the refusals in order, and what they change (document 02, x).
-use Rattle.std.specs.Prelude.{Bool, true, false, cond, not, ◌&&◌, ◌||◌, List, [], ◌∷◌, ℕ, ◌+◌, eqb, leb, length}
+use Rattle.base.specs.declared.Refusal.{Refusal}
+use Rattle.std.specs.Prelude.{
+  Bool,
+  true,
+  false,
+  cond,
+  not,
+  ◌&&◌,
+  ◌||◌,
+  List,
+  [],
+  ◌∷◌,
+  ℕ,
+  ◌+◌,
+  eqb,
+  leb,
+  length,
+  Ok,
+  Err,
+  Some,
+  None,
+  Result,
+  Option,
+}
 use Rattle.base.specs.declared.Refusal.TheVariants.{BadClientOrNumber, DoesNotFit}
 use Rattle.formatter.specs.Format.{format, formatted}
-use Rattle.formatter.specs.declared.FormatAnswer.{FormatAnswer}
-use Rattle.formatter.specs.declared.FormatAnswer.TheVariants.{Changed, Refused, Unchanged}
-use Rattle.store.specs.declared.StoreAnswer.{StoreAnswer}
-use Rattle.store.specs.declared.StoreAnswer.TheVariants as Answered
 use Rattle.store.specs.Store.{Filed, Store, charge_at, in_use, is_at, is_place, left, without}
 
 -- ---- a call and its answer
@@ -17,8 +36,8 @@ pub data Call : Type 0 where
 
 -- Filing answers as formatting does; a release answers with the bytes given back, or with a refusal.
 pub data Answer : Type 0 where
-  of_file : FormatAnswer → Answer
-  of_release : StoreAnswer → Answer
+  of_file : Result (Option ℕ) Refusal → Answer
+  of_release : Result ℕ Refusal → Answer
 
 -- "charges its formatted length"
 abbrev pub charge_of : List ℕ → List ℕ → ℕ
@@ -33,23 +52,23 @@ abbrev pub bad_release : Store → ℕ → ℕ → Bool
 bad_release s c n = not (is_place c n && in_use c n s.filed)
 
 -- "Errors, after 8: 13 ..; 14, tested after 13, the charge doesn't fit, with the number of bytes that would". l is that number.
-abbrev pub tested : (bad fits : Bool) → ℕ → FormatAnswer → FormatAnswer
-tested bad fits l a = cond bad (Refused BadClientOrNumber) (cond fits a (Refused (DoesNotFit l)))
+abbrev pub tested : (bad fits : Bool) → ℕ → Result (Option ℕ) Refusal → Result (Option ℕ) Refusal
+tested bad fits l a = cond bad (Err BadClientOrNumber) (cond fits a (Err (DoesNotFit l)))
 
 -- "Filing formats a message as before": formatting's refusals 1, 2, 3 and 8 come first.
-abbrev pub after_format : (bad fits : Bool) → ℕ → FormatAnswer → FormatAnswer
-after_format bad fits l Unchanged = tested bad fits l Unchanged
-after_format bad fits l (Changed n) = tested bad fits l (Changed n)
-after_format bad fits l (Refused r) = Refused r
+abbrev pub after_format : (bad fits : Bool) → ℕ → Result (Option ℕ) Refusal → Result (Option ℕ) Refusal
+after_format bad fits l (Ok None) = tested bad fits l (Ok None)
+after_format bad fits l (Ok (Some n)) = tested bad fits l (Ok (Some n))
+after_format bad fits l (Err r) = Err r
 
 -- "Filing is accepted if the charge fits what is left of the client's reserve and of the common part together."
-unfoldable pub file_answer : Store → List ℕ → List ℕ → ℕ → ℕ → List ℕ → FormatAnswer
+unfoldable pub file_answer : Store → List ℕ → List ℕ → ℕ → ℕ → List ℕ → Result (Option ℕ) Refusal
 file_answer s text policy c n out =
     after_format (bad_file s c n) (leb (charge_of text policy) (left s c)) (left s c) (format text policy out).answer
 
 -- "releasing a filed message gives its bytes back"
-unfoldable pub release_answer : Store → ℕ → ℕ → StoreAnswer
-release_answer s c n = cond (bad_release s c n) (Answered.Refused BadClientOrNumber) (Answered.Done (charge_at c n s.filed))
+unfoldable pub release_answer : Store → ℕ → ℕ → Result ℕ Refusal
+release_answer s c n = cond (bad_release s c n) (Err BadClientOrNumber) (Ok (charge_at c n s.filed))
 
 abbrev pub answer : Store → Call → Answer
 answer s (file text policy c n out) = of_file (file_answer s text policy c n out)
@@ -63,14 +82,14 @@ pub data Change : Type 0 where
   takes : ℕ → ℕ → Change
   nothing : Change
 
-abbrev pub file_change : Filed → FormatAnswer → Change
-file_change m Unchanged = adds m
-file_change m (Changed l) = adds m
-file_change m (Refused r) = nothing
+abbrev pub file_change : Filed → Result (Option ℕ) Refusal → Change
+file_change m (Ok None) = adds m
+file_change m (Ok (Some l)) = adds m
+file_change m (Err r) = nothing
 
-abbrev pub release_change : ℕ → ℕ → StoreAnswer → Change
-release_change c n (Answered.Done k) = takes c n
-release_change c n (Answered.Refused r) = nothing
+abbrev pub release_change : ℕ → ℕ → Result ℕ Refusal → Change
+release_change c n (Ok k) = takes c n
+release_change c n (Err r) = nothing
 
 -- "charges its formatted length to its client, under a number .. that this client isn't using; its release names client and number"
 abbrev pub change_by : Store → Call → Change
@@ -91,10 +110,10 @@ abbrev pub next : Store → Call → Store
 next s call = with_filed s (changed_filed s.filed (change_by s call))
 
 -- The output after a filing with this answer: what formatting leaves there, or the output as it was.
-abbrev pub output_by : List ℕ → List ℕ → FormatAnswer → List ℕ
-output_by formatted out Unchanged = formatted
-output_by formatted out (Changed l) = formatted
-output_by formatted out (Refused r) = out
+abbrev pub output_by : List ℕ → List ℕ → Result (Option ℕ) Refusal → List ℕ
+output_by formatted out (Ok None) = formatted
+output_by formatted out (Ok (Some l)) = formatted
+output_by formatted out (Err r) = out
 
 unfoldable pub file_output : Store → List ℕ → List ℕ → ℕ → ℕ → List ℕ → List ℕ
 file_output s text policy c n out = output_by (format text policy out).buffer out (file_answer s text policy c n out)
@@ -115,15 +134,15 @@ client_of (file text policy c n out) = c
 client_of (release c n) = c
 
 -- Whether an answer is a refusal.
-abbrev pub is_refusal : FormatAnswer → Bool
-is_refusal Unchanged = false
-is_refusal (Changed l) = false
-is_refusal (Refused r) = true
+abbrev pub is_refusal : Result (Option ℕ) Refusal → Bool
+is_refusal (Ok None) = false
+is_refusal (Ok (Some l)) = false
+is_refusal (Err r) = true
 
 abbrev pub is_refused : Answer → Bool
 is_refused (of_file a) = is_refusal a
-is_refused (of_release (Answered.Done k)) = false
-is_refused (of_release (Answered.Refused r)) = true
+is_refused (of_release (Ok k)) = false
+is_refused (of_release (Err r)) = true
 
 -- ---- lists of calls on a store that is handed on from call to call, refused calls included
 

@@ -1,13 +1,11 @@
 -- What is claimed of a store. Each statement is proved in proofs/Claims.antt, under the same name in snake case.
-use Rattle.std.specs.Prelude.{◌≡◌, true, false, cond, List, ℕ, ◌+◌, ◌*◌, ◌-◌, ◌^◌, ◌≤◌, ◌<◌, leb, take}
+use Rattle.std.specs.Prelude.{◌≡◌, true, false, cond, List, ℕ, ◌+◌, ◌*◌, ◌-◌, ◌^◌, ◌≤◌, ◌<◌, leb, take, Ok, Err}
 use Rattle.base.specs.Sums.{sum_below}
 use Rattle.base.specs.Refusals.{text_limit}
 use Rattle.base.specs.declared.Refusal.{Refusal}
 use Rattle.base.specs.declared.Refusal.TheVariants.{BadClientOrNumber, DoesNotFit}
 use Rattle.policy.specs.PolicyBytes.{numbers_of}
 use Rattle.formatter.specs.Format.{format}
-use Rattle.formatter.specs.declared.FormatAnswer.TheVariants.{Refused}
-use Rattle.store.specs.declared.StoreAnswer.TheVariants as Answered
 use Rattle.store.specs.Store.{Sound, Store, clients, common_left, in_use, is_place, left, new_store, overflow, reserve, reserve_left, used}
 use Rattle.store.specs.Calls.{
   Call,
@@ -49,17 +47,17 @@ pub record FileClaim (s : Store) (text policy : List ℕ) (c n : ℕ) (out : Lis
       → (file_answer s text policy c n out ≡ (format text policy out).answer)
       × (file_output s text policy c n out ≡ (format text policy out).buffer)
   -- Filing gives each refusal of formatting where formatting gives it, and no refusal but 13 and 14 anywhere else: "Errors, after 8".
-  pub format_first : (r : Refusal) → (format text policy out).answer ≡ Refused r → file_answer s text policy c n out ≡ Refused r
+  pub format_first : (r : Refusal) → (format text policy out).answer ≡ Err r → file_answer s text policy c n out ≡ Err r
   pub format_only : (r : Refusal) → (r ≡ BadClientOrNumber → ⊥) → ((l : ℕ) → r ≡ DoesNotFit l → ⊥)
-      → file_answer s text policy c n out ≡ Refused r → (format text policy out).answer ≡ Refused r
+      → file_answer s text policy c n out ≡ Err r → (format text policy out).answer ≡ Err r
   -- "13, client above 15 or number above 255, filing under a number in use", for a text that formatting takes.
   pub bad_place : is_refusal (format text policy out).answer ≡ false → bad_file s c n ≡ true
-      → file_answer s text policy c n out ≡ Refused BadClientOrNumber
-  pub bad_only : file_answer s text policy c n out ≡ Refused BadClientOrNumber → bad_file s c n ≡ true
+      → file_answer s text policy c n out ≡ Err BadClientOrNumber
+  pub bad_only : file_answer s text policy c n out ≡ Err BadClientOrNumber → bad_file s c n ≡ true
   -- "14, tested after 13, the charge doesn't fit, with the number of bytes that would"
   pub no_room : is_refusal (format text policy out).answer ≡ false → bad_file s c n ≡ false → left s c < charge_of text policy
-      → file_answer s text policy c n out ≡ Refused (DoesNotFit (left s c))
-  pub would_fit : (l : ℕ) → file_answer s text policy c n out ≡ Refused (DoesNotFit l) → (l ≡ left s c) × (l < charge_of text policy)
+      → file_answer s text policy c n out ≡ Err (DoesNotFit (left s c))
+  pub would_fit : (l : ℕ) → file_answer s text policy c n out ≡ Err (DoesNotFit l) → (l ≡ left s c) × (l < charge_of text policy)
   -- "A client still within its reserve, with a number unused, never gets 14 for a charge up to what is left of it": it gets what formatting
   -- answers.
   pub guaranteed : is_place c n ≡ true → in_use c n s.filed ≡ false → used s c ≤ reserve s c → charge_of text policy ≤ reserve_left s c
@@ -100,19 +98,19 @@ pub record StoreClaim (capacity : ℕ) (reserves : List ℕ) (history : List Cha
   pub files : (text policy : List ℕ) (c n : ℕ) (out : List ℕ) → FileClaim s text policy c n out
   pub takes : (text policy : List ℕ) (c n : ℕ) (out : List ℕ) → is_refusal (file_answer s text policy c n out) ≡ false
       → TakesFrom s (next s (file text policy c n out)) c (charge_of text policy)
-  pub releases : (c n k : ℕ) → release_answer s c n ≡ Answered.Done k → GivesBack s (next s (release c n)) c k
+  pub releases : (c n k : ℕ) → release_answer s c n ≡ Ok k → GivesBack s (next s (release c n)) c k
 
 -- The bytes B are those of the store s, and the next call answers and writes what that store's call does.
 pub record InBytes (B : List ℕ) (s : Store) : Type 0 where
   pub represents : Represents B s
   pub answers : (x : Call) → answer_of B x ≡ answer s x
   pub outputs : (x : Call) → out_after B x ≡ output_after s x
-  pub uses : (c : ℕ) → c < clients → used_call B c ≡ Answered.Done (used s c)
+  pub uses : (c : ℕ) → c < clients → used_call B c ≡ Ok (used s c)
 
 -- Every list of calls, refused ones included, on a store begun new with a capacity and reserves and handed on from call to call.
 unfoldable pub EveryStoreInBytes : Type 0
 EveryStoreInBytes =
-    (capacity : ℕ) (reserves store : List ℕ) → capacity < 2 ^ 64 → (begin_call capacity reserves store).answer ≡ Answered.Done store_bytes
+    (capacity : ℕ) (reserves store : List ℕ) → capacity < 2 ^ 64 → (begin_call capacity reserves store).answer ≡ Ok store_bytes
     → (xs : List Call)
     → InBytes (bytes_after (take store_bytes (begin_call capacity reserves store).buffer) xs)
     (store_after (new_store capacity (numbers_of reserves)) xs)
@@ -123,8 +121,8 @@ EveryStoreInBytes =
 unfoldable pub RefusalsWriteNothing : Type 0
 RefusalsWriteNothing =
     (bs : List ℕ)
-    → ((text policy : List ℕ) (c n : ℕ) (out : List ℕ) (r : Refusal) → (file_call bs text policy c n out).answer ≡ Refused r
+    → ((text policy : List ℕ) (c n : ℕ) (out : List ℕ) (r : Refusal) → (file_call bs text policy c n out).answer ≡ Err r
     → ((file_call bs text policy c n out).store ≡ bs) × ((file_call bs text policy c n out).out ≡ out))
-    × ((c n : ℕ) (r : Refusal) → (release_call bs c n).answer ≡ Answered.Refused r → (release_call bs c n).buffer ≡ bs)
-    × ((capacity : ℕ) (reserves : List ℕ) (r : Refusal) → (begin_call capacity reserves bs).answer ≡ Answered.Refused r
+    × ((c n : ℕ) (r : Refusal) → (release_call bs c n).answer ≡ Err r → (release_call bs c n).buffer ≡ bs)
+    × ((capacity : ℕ) (reserves : List ℕ) (r : Refusal) → (begin_call capacity reserves bs).answer ≡ Err r
     → (begin_call capacity reserves bs).buffer ≡ bs)

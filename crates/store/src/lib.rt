@@ -6,18 +6,10 @@
 
 ghost use Rattle.std.specs.Prelude.{◌≡◌, ◌<◌};
 ghost use Rattle.base.specs.Words.{word_at};
-ghost use Rattle.base.specs.Answers.{Answers};
-ghost use Rattle.store.specs.Bytes.{store_row, used_call};
+ghost use Rattle.base.specs.Answers.{Answers, answer_row};
+ghost use Rattle.store.specs.Bytes.{used_call};
 
 use base::Refusal;
-
-// The answer of a call that writes no text: its number of bytes, or a refusal. The number is that of a store's bytes, of the bytes given
-// back, or of the bytes charged to a client.
-#[derive(Clone, Copy)]
-pub enum StoreAnswer {
-    Done { bytes: usize },
-    Refused(Refusal),
-}
 
 // The number of bytes of a store: 4,129 words of 8 bytes.
 pub const STORE_BYTES: usize = 33_032;
@@ -36,16 +28,14 @@ fn word(store: &[u8], k: usize) -> usize
 }
 
 // Returns the number of bytes charged to a client, or refusal 13.
-pub fn used(store: &[u8], client: usize) -> StoreAnswer
-    ensures { Answers store_row (used_call store.now client) result }
+pub fn used(store: &[u8], client: usize) -> Result<usize, Refusal>
+    ensures { Answers answer_row (used_call store.now client) result }
 {
     if store.len() != STORE_BYTES {
-        return StoreAnswer::Refused(Refusal::BadClientOrNumber);
+        return Err(Refusal::BadClientOrNumber);
     }
     if CLIENTS <= client {
-        return StoreAnswer::Refused(Refusal::BadClientOrNumber);
+        return Err(Refusal::BadClientOrNumber);
     }
-    StoreAnswer::Done {
-        bytes: word(store, FIRST_USED + client),
-    }
+    Ok(word(store, FIRST_USED + client))
 }

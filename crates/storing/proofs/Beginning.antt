@@ -1,4 +1,6 @@
 -- Beginning: the words of a new store, the test of the reserves, and the outcome by the tests.
+use Rattle.base.specs.declared.Refusal.{Refusal}
+use Rattle.std.specs.Prelude.{Ok, Err, Result}
 use mathlib.Core.Path.{◌≡◌, refl, ap, ap₂, sym, ◌∙◌}
 use mathlib.Core.Bool.{Bool, true, false}
 use mathlib.Core.List.{List, ◌++◌}
@@ -13,15 +15,13 @@ use Rattle.base.proofs.Answering.{ends_as}
 use Rattle.base.proofs.Numbers.{length_bytes_of_lem}
 use Rattle.base.proofs.Tests.{and_both, both_true, fails}
 use Rattle.base.proofs.Writer.{Writing, begin}
-use Rattle.base.specs.Answers.{EndsAs}
+use Rattle.base.specs.Answers.{EndsAs, answer_row}
 use Rattle.base.specs.Refusals.{After}
 use Rattle.base.specs.Words.{bytes_of, number, word_at}
 use Rattle.base.specs.declared.Refusal.TheVariants.{BadClientOrNumber, DoesNotFit, OutputTooShort}
 use Rattle.policy.specs.PolicyBytes.{numbers_of}
 use Rattle.policy.proofs.Bytes.{get_or-words_from, length_words_from}
-use Rattle.store.specs.declared.StoreAnswer.{StoreAnswer}
-use Rattle.store.specs.declared.StoreAnswer.TheVariants.{Done, Refused}
-use Rattle.store.specs.Bytes.{begin_call, new_bytes, new_words, store_bytes, store_row}
+use Rattle.store.specs.Bytes.{begin_call, new_bytes, new_words, store_bytes}
 use Rattle.store.proofs.Beginning.{Fit, Whole, begin_is, by_tests_lem, few_reserves, new_bytes_length, new_length}
 use Rattle.store.proofs.Sums.{sum_same}
 use Rattle.store.proofs.Words.{padded}
@@ -86,15 +86,15 @@ module _ (C : ℕ) (rb st : List ℕ) where
   abbrev rs : List ℕ
   rs = numbers_of rb
 
-  abbrev tests : Bool → Bool → Bool → After StoreAnswer ℕ
+  abbrev tests : Bool → Bool → Bool → After (Result ℕ Refusal) ℕ
   tests = by_tests_lem C rb st
 
-  pub begin_short : length st < store_bytes → EndsAs store_row (begin_call C rb st) (Refused (OutputTooShort store_bytes)) st
+  pub begin_short : length st < store_bytes → EndsAs answer_row (begin_call C rb st) (Err (OutputTooShort store_bytes)) st
   begin_short h =
       ends_as (sym (begin_is C rb st ∙ ap (λ (t : Bool). tests t (Whole C rb st) (Fit C rb st)) (lt-leb store_bytes (length st) h)))
 
   module _ (l : store_bytes ≤ length st) where
-    pub begin-odd : ((length rb % 8 ≡ 0) → length rb ≤ 128 → ⊥) → EndsAs store_row (begin_call C rb st) (Refused BadClientOrNumber) st
+    pub begin-odd : ((length rb % 8 ≡ 0) → length rb ≤ 128 → ⊥) → EndsAs answer_row (begin_call C rb st) (Err BadClientOrNumber) st
     begin-odd h =
         ends_as (sym (begin_is C rb st
         ∙ ap₂ (λ (t u : Bool). tests t u (Fit C rb st)) (le-leb store_bytes (length st) l)
@@ -120,19 +120,19 @@ module _ (C : ℕ) (rb st : List ℕ) where
           begin_is C rb st ∙ ap₂ (λ (t u : Bool). tests t u (Fit C rb st)) (le-leb store_bytes (length st) l) whole
           ∙ ap (λ (u : Bool). tests true true u) (sym same-fit ∙ e)
 
-      pub begin-passed : fit ≡ false → EndsAs store_row (begin_call C rb st) (Refused (DoesNotFit C)) st
+      pub begin-passed : fit ≡ false → EndsAs answer_row (begin_call C rb st) (Err (DoesNotFit C)) st
       begin-passed e = ends_as (sym (at false e))
 
       pub begin_done : fit ≡ true → (st' : List ℕ) → st' ≡ sets st 0 (new_bytes C rs)
-          → EndsAs store_row (begin_call C rb st) (Done store_bytes) st'
+          → EndsAs answer_row (begin_call C rb st) (Ok store_bytes) st'
       begin_done e st' h =
           let n = new_bytes_length C rs (few_reserves rb m) in
           ends_as (ap (λ (b : List ℕ). made b)
           (h ∙ sets-eq (new_bytes C rs) st 0 (omega arith)
           ∙ ap (λ (k : ℕ). new_bytes C rs ++ drop k st) (zero-front (length (new_bytes C rs)))) ∙ sym (at true e))
         where
-          made : List ℕ → After StoreAnswer ℕ
-          made b = record { answer = Done store_bytes; buffer = b }
+          made : List ℕ → After (Result ℕ Refusal) ℕ
+          made b = record { answer = Ok store_bytes; buffer = b }
 
           zero-front : (k : ℕ) → 0 + k ≡ k
           zero-front k = omega arith

@@ -3,7 +3,7 @@
 use mathlib.Core.Path.{◌≡◌, refl, ap, ap₂, ◌∙◌}
 use mathlib.Core.Logic.{◌⊎◌, inl, inr}
 use mathlib.Core.List.{List}
-use Prim.Native.Nat.{ℕ, suc, ◌+◌, ◌*◌, ◌-◌, ◌≤◌, ◌<◌}
+use Prim.Native.Nat.{ℕ, suc, ◌+◌, ◌*◌, ◌-◌, ◌≤◌, ◌<◌, min}
 use native.Mathlib.Omega.{arith}
 use lib.ListN.{drop, get_or, take}
 use lib.Seq.{get_or-drop}
@@ -37,8 +37,8 @@ pub sum-none : (f : ℕ → ℕ) → 0 ≡ capped (sum_below 0 f)
 unfolding sum_below capped
 sum-none f = refl
 
-pub sum_more : (f : ℕ → ℕ) (n s v r : ℕ) → s ≡ capped (sum_below n f) → v ≡ f n → r ≡ capped (s + v) → r ≡ capped (sum_below (n + 1) f)
-sum_more f n s v r p q e = omega (arith, sum-next f n, capped_is (sum_below n f), capped_is (s + v), capped_is (sum_below (n + 1) f))
+pub sum_more : (f : ℕ → ℕ) (n s v r : ℕ) → s ≡ capped (sum_below n f) → v ≡ f n → r ≡ min (s + v) most → r ≡ capped (sum_below (n + 1) f)
+sum_more f n s v r p q e = omega (arith, sum-next f n, capped_is (sum_below n f), capped_is (sum_below (n + 1) f))
 
 pub sum_done : (f : ℕ → ℕ) (n s : ℕ) → n ≡ 16 → s ≡ capped (sum_below n f) → s ≡ capped (sum_below 16 f)
 sum_done f n s e h = h ∙ ap (λ (k : ℕ). capped (sum_below k f)) e

@@ -8,18 +8,17 @@
 ghost use Rattle.std.specs.Prelude.{◌≡◌, ℕ, ◌+◌, ◌*◌, ◌-◌, ◌%◌, ◌≤◌, ◌<◌, leb, get_or, length};
 ghost use Rattle.std.proofs.lemmas.List.Edits.{sets};
 ghost use Rattle.base.specs.Words.{word_at};
-ghost use Rattle.base.specs.Answers.{EndsAs, check_row};
+ghost use Rattle.base.specs.Answers.{EndsAs, check_row, answer_row};
 ghost use Rattle.base.specs.Sums.{capped, most, sum_below};
 ghost use Rattle.policy.specs.PolicyBytes.{numbers_of};
 ghost use Rattle.store.specs.Bytes.{EndsFiled, begin_call, charge_call, common_left_of, file_call, give_back, has_place, is_taken, left_of};
-ghost use Rattle.store.specs.Bytes.{new_bytes, new_words, overflow_of, put_word, release_call, reserve_word, store_row};
+ghost use Rattle.store.specs.Bytes.{new_bytes, new_words, overflow_of, put_word, release_call, reserve_word};
 ghost use Rattle.store.specs.Bytes.{used_word};
 ghost use Rattle.store.specs.Bytes as Bytes;
 
-use base::{Check, Refusal, add_count};
-use formatter::FormatAnswer;
+use base::Refusal;
 use formatting::{format_answer, write_formatted};
-use store::{CLIENTS, FIRST_USED, STORE_BYTES, StoreAnswer};
+use store::{CLIENTS, FIRST_USED, STORE_BYTES};
 
 const WORDS: usize = 4_129;
 
@@ -30,9 +29,6 @@ const NUMBERS: usize = 256;
 
 // The index of the word of number 0 of client 0.
 const FIRST_PLACE: usize = 33;
-
-// The largest number.
-const MOST: usize = 18_446_744_073_709_551_615;
 
 // Returns a word of a store.
 fn word(store: &[u8], k: usize) -> usize
@@ -50,25 +46,13 @@ fn put(store: &mut [u8], k: usize, w: usize)
     base::write_word(store, 8 * k, w as u64);
 }
 
-// Returns the difference of two numbers, or 0.
-fn minus(a: usize, b: usize) -> usize
-    ensures { result ≡ a - b }
-{
-    if a < b {
-        return 0;
-    }
-    a - b
-}
-
 // Returns the sum of all reserves, or the largest number.
 fn reserved(store: &[u8]) -> usize
     ensures { result ≡ capped (sum_below 16 (λ (c : ℕ). word_at (reserve_word c) store.now)) }
 {
     let mut sum: usize = 0;
-    let mut c = 0;
-    while c < CLIENTS {
-        sum = add_count(sum, word(store, 1 + c));
-        c += 1;
+    for c in 0..CLIENTS {
+        sum = sum.saturating_add(word(store, 1 + c));
     }
     sum
 }
@@ -78,7 +62,7 @@ fn overflow(store: &[u8], c: usize) -> usize
     requires { c < 16 }
     ensures { result ≡ overflow_of store.now c }
 {
-    minus(word(store, FIRST_USED + c), word(store, 1 + c))
+    word(store, FIRST_USED + c).saturating_sub(word(store, 1 + c))
 }
 
 // Returns what all clients use beyond their reserves, or the largest number.
@@ -86,10 +70,8 @@ fn overflowed(store: &[u8]) -> usize
     ensures { result ≡ capped (sum_below 16 (overflow_of store.now)) }
 {
     let mut sum: usize = 0;
-    let mut c = 0;
-    while c < CLIENTS {
-        sum = add_count(sum, overflow(store, c));
-        c += 1;
+    for c in 0..CLIENTS {
+        sum = sum.saturating_add(overflow(store, c));
     }
     sum
 }
@@ -98,7 +80,9 @@ fn overflowed(store: &[u8]) -> usize
 fn common_left(store: &[u8]) -> usize
     ensures { result ≡ common_left_of store.now }
 {
-    minus(minus(word(store, 0), reserved(store)), overflowed(store))
+    word(store, 0)
+        .saturating_sub(reserved(store))
+        .saturating_sub(overflowed(store))
 }
 
 // Returns what is left of a client's reserve and of the common part together.
@@ -106,17 +90,14 @@ fn left(store: &[u8], c: usize) -> usize
     requires { c < 16 }
     ensures { result ≡ left_of store.now c }
 {
-    minus(word(store, 1 + c), word(store, FIRST_USED + c)) + common_left(store)
+    word(store, 1 + c).saturating_sub(word(store, FIRST_USED + c)) + common_left(store)
 }
 
 // Tests whether bytes have the length of a store, and client and number are within their limits.
 fn has_place(store: &[u8], client: usize, number: usize) -> bool
     ensures { result ≡ has_place store.now client number }
 {
-    if store.len() != STORE_BYTES {
-        return false;
-    }
-    if CLIENTS <= client {
+    if store.len() != STORE_BYTES || CLIENTS <= client {
         return false;
     }
     number < NUMBERS
@@ -142,24 +123,24 @@ fn put_charge(store: &mut [u8], client: usize, number: usize, bytes: usize)
 }
 
 // Charges bytes to a client under a number, or refuses by 13 or 14.
-pub fn charge(store: &mut [u8], client: usize, number: usize, bytes: usize) -> Check
+pub fn charge(store: &mut [u8], client: usize, number: usize, bytes: usize) -> Result<(), Refusal>
     ensures { EndsAs check_row (charge_call store.old client number bytes) result store.new }
 {
     if !has_place(store, client, number) {
-        return Check::Refused(Refusal::BadClientOrNumber);
+        return Err(Refusal::BadClientOrNumber);
     }
     if is_taken(store, client, number) {
-        return Check::Refused(Refusal::BadClientOrNumber);
+        return Err(Refusal::BadClientOrNumber);
     }
     let fits = left(store, client);
     if fits < bytes {
-        return Check::Refused(Refusal::DoesNotFit { fits });
+        return Err(Refusal::DoesNotFit { fits });
     }
-    if bytes == MOST {
-        return Check::Refused(Refusal::DoesNotFit { fits });
+    if bytes == usize::MAX {
+        return Err(Refusal::DoesNotFit { fits });
     }
     put_charge(store, client, number, bytes);
-    Check::Passed
+    Ok(())
 }
 
 // Files a message: charges its formatted length to a client under a number, and writes the formatted text if it differs from the text.
@@ -170,27 +151,18 @@ pub fn file(
     client: usize,
     number: usize,
     out: &mut [u8],
-) -> FormatAnswer
+) -> Result<Option<usize>, Refusal>
     ensures { EndsFiled
         (file_call store.old text.now policy.now client number out.old) result
         store.new out.new }
 {
-    match format_answer(text, policy, out.len()) {
-        FormatAnswer::Unchanged => {
-            if let Check::Refused(refusal) = charge(store, client, number, text.len()) {
-                return FormatAnswer::Refused(refusal);
-            }
-            FormatAnswer::Unchanged
-        }
-        FormatAnswer::Changed { len } => {
-            if let Check::Refused(refusal) = charge(store, client, number, len) {
-                return FormatAnswer::Refused(refusal);
-            }
-            write_formatted(text, policy, out, 0);
-            FormatAnswer::Changed { len }
-        }
-        FormatAnswer::Refused(refusal) => FormatAnswer::Refused(refusal),
+    let answer = format_answer(text, policy, out.len())?;
+    let len = answer.unwrap_or(text.len());
+    charge(store, client, number, len)?;
+    if answer.is_some() {
+        write_formatted(text, policy, out, 0);
     }
+    Ok(answer)
 }
 
 // Takes bytes off what a client uses, and frees the number.
@@ -199,23 +171,23 @@ fn put_back(store: &mut [u8], client: usize, number: usize, bytes: usize)
     ensures { store.new ≡ give_back client number bytes store.old }
 {
     let used = word(store, FIRST_USED + client);
-    put(store, FIRST_USED + client, minus(used, bytes));
+    put(store, FIRST_USED + client, used.saturating_sub(bytes));
     put(store, FIRST_PLACE + NUMBERS * client + number, 0);
 }
 
 // Releases the message that a client filed under a number. The answer has the number of bytes given back.
-pub fn release(store: &mut [u8], client: usize, number: usize) -> StoreAnswer
-    ensures { EndsAs store_row (release_call store.old client number) result store.new }
+pub fn release(store: &mut [u8], client: usize, number: usize) -> Result<usize, Refusal>
+    ensures { EndsAs answer_row (release_call store.old client number) result store.new }
 {
     if !has_place(store, client, number) {
-        return StoreAnswer::Refused(Refusal::BadClientOrNumber);
+        return Err(Refusal::BadClientOrNumber);
     }
     if !is_taken(store, client, number) {
-        return StoreAnswer::Refused(Refusal::BadClientOrNumber);
+        return Err(Refusal::BadClientOrNumber);
     }
-    let bytes = minus(word(store, FIRST_PLACE + NUMBERS * client + number), 1);
+    let bytes = word(store, FIRST_PLACE + NUMBERS * client + number).saturating_sub(1);
     put_back(store, client, number, bytes);
-    StoreAnswer::Done { bytes }
+    Ok(bytes)
 }
 
 // Tests whether reserves sum to at most a capacity. Each reserve is taken from what is left of the capacity, because the sum can be greater
@@ -224,14 +196,11 @@ fn reserves_fit(capacity: usize, reserves: &[u8]) -> bool
     ensures { result ≡ leb (sum_below 16 (λ (c : ℕ). word_at c reserves.now)) capacity }
 {
     let mut rest = capacity;
-    let mut c = 0;
-    while c < CLIENTS {
-        let w = word(reserves, c);
-        if rest < w {
-            return false;
+    for c in 0..CLIENTS {
+        match rest.checked_sub(word(reserves, c)) {
+            Some(left) => rest = left,
+            None => return false,
         }
-        rest -= w;
-        c += 1;
     }
     true
 }
@@ -252,33 +221,26 @@ fn put_new(capacity: usize, reserves: &[u8], store: &mut [u8])
     requires { (length reserves.now % 8 ≡ 0) × (length reserves.now ≤ 128) × (33032 ≤ length store.old) }
     ensures { store.new ≡ sets store.old 0 (new_bytes capacity (numbers_of reserves.now)) }
 {
-    let mut at = 0;
-    let mut k = 0;
-    while k < WORDS {
-        base::write_word(store, at, new_word(capacity, reserves, k) as u64);
-        at += 8;
-        k += 1;
+    for k in 0..WORDS {
+        base::write_word(store, 8 * k, new_word(capacity, reserves, k) as u64);
     }
 }
 
 // Begins a store in a lent buffer. The reserves are numbers of 8 bytes, from client 0 on.
-pub fn begin(capacity: usize, reserves: &[u8], store: &mut [u8]) -> StoreAnswer
-    ensures { EndsAs store_row (begin_call capacity reserves.now store.old) result store.new }
+pub fn begin(capacity: usize, reserves: &[u8], store: &mut [u8]) -> Result<usize, Refusal>
+    ensures { EndsAs answer_row (begin_call capacity reserves.now store.old) result store.new }
 {
     if store.len() < STORE_BYTES {
-        return StoreAnswer::Refused(Refusal::OutputTooShort {
+        return Err(Refusal::OutputTooShort {
             wanted: STORE_BYTES,
         });
     }
-    if reserves.len() % 8 != 0 {
-        return StoreAnswer::Refused(Refusal::BadClientOrNumber);
-    }
-    if RESERVES_BYTES < reserves.len() {
-        return StoreAnswer::Refused(Refusal::BadClientOrNumber);
+    if reserves.len() % 8 != 0 || RESERVES_BYTES < reserves.len() {
+        return Err(Refusal::BadClientOrNumber);
     }
     if !reserves_fit(capacity, reserves) {
-        return StoreAnswer::Refused(Refusal::DoesNotFit { fits: capacity });
+        return Err(Refusal::DoesNotFit { fits: capacity });
     }
     put_new(capacity, reserves, store);
-    StoreAnswer::Done { bytes: STORE_BYTES }
+    Ok(STORE_BYTES)
 }

@@ -1,9 +1,9 @@
 -- ASCII is plain text where the policy keeps the ASCII bases bare: all of a run but its last character, and that one too if it has no
 -- variation entry or the text ends there.
+use Rattle.std.specs.Prelude.{None}
 use mathlib.Core.Path.{◌≡◌, refl, ap, sym, ◌∙◌, subst}
 use mathlib.Core.Logic.{◌⊎◌, inl, inr, ⊎_elim}
 use mathlib.Core.Bool.{Bool, true, false, true≢false}
-use mathlib.Core.Option.{none}
 use mathlib.Core.List.{List, [], ◌∷◌}
 use Prim.Native.Nat.{ℕ, zero, suc, ◌+◌, ◌-◌, ◌<◌, ◌≤◌}
 use native.Mathlib.Omega.{arith}
@@ -91,7 +91,7 @@ ascii_class c h = go (has_class c)
     go (is_emoji_lem e r m) = inl refl
     go (is_other o k t) = inr refl
 
-unit_none : (k : Class) → (k ≡ emoji) ⊎ (k ≡ other) → transition unit k ≡ none
+unit_none : (k : Class) → (k ≡ emoji) ⊎ (k ≡ other) → transition unit k ≡ None
 unfolding transition
 unit_none k h = ⊎_elim (λ e. ap (transition unit) e) (λ e. ap (transition unit) e) h
 

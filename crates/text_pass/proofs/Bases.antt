@@ -1,4 +1,5 @@
 -- The change at a base with a variation entry and the selectors after it, and at a selector without such a base.
+use Rattle.std.specs.Prelude.{Some, None, Option}
 use mathlib.Core.Path.{◌≡◌, refl, ap, ap₂, sym, ◌∙◌}
 use mathlib.Core.Bool.{Bool, true, false, ◌&&◌, not, true≢false}
 use mathlib.Core.List.{List, [], ◌∷◌, ◌++◌, append_assoc, map}
@@ -13,9 +14,6 @@ use Rattle.utf8.proofs.Places.{Step}
 use Rattle.emoji.specs.Presentation.{as_selector, from_selector, is_selector}
 use Rattle.emoji.specs.Theorems.{NoIndexNoEntry, VariationEntriesAreEmoji}
 use Rattle.emoji.specs.Unicode.{variation_sequence_index}
-use Rattle.emoji.specs.declared.VariationSequenceIndex.TheVariants.{At, NoEntry}
-use Rattle.emoji.specs.declared.presentation.FromSelector.{FromSelector}
-use Rattle.emoji.specs.declared.presentation.FromSelector.TheVariants.{NoSelector, Selector}
 use Rattle.emoji.specs.declared.presentation.Presentation.{Presentation}
 use Rattle.emoji.specs.declared.presentation.Presentation.TheVariants.{Emoji, Text}
 use Rattle.emoji.proofs.Claims.{no_index_no_entry, variation_entries_are_emoji}
@@ -56,16 +54,16 @@ use Rattle.text_pass.proofs.Staying.{between, step_bytes_lem, step-formatted, st
 
 -- ---- whether selectors change
 
-number-tells : (a b : FromSelector) → selector_number a ≡ selector_number b → a ≡ b
-number-tells NoSelector NoSelector e = refl
-number-tells NoSelector (Selector Text) e = absurd (omega arith)
-number-tells NoSelector (Selector Emoji) e = absurd (omega arith)
-number-tells (Selector Text) NoSelector e = absurd (omega arith)
-number-tells (Selector Text) (Selector Text) e = refl
-number-tells (Selector Text) (Selector Emoji) e = absurd (omega arith)
-number-tells (Selector Emoji) NoSelector e = absurd (omega arith)
-number-tells (Selector Emoji) (Selector Text) e = absurd (omega arith)
-number-tells (Selector Emoji) (Selector Emoji) e = refl
+number-tells : (a b : Option Presentation) → selector_number a ≡ selector_number b → a ≡ b
+number-tells None None e = refl
+number-tells None (Some Text) e = absurd (omega arith)
+number-tells None (Some Emoji) e = absurd (omega arith)
+number-tells (Some Text) None e = absurd (omega arith)
+number-tells (Some Text) (Some Text) e = refl
+number-tells (Some Text) (Some Emoji) e = absurd (omega arith)
+number-tells (Some Emoji) None e = absurd (omega arith)
+number-tells (Some Emoji) (Some Text) e = absurd (omega arith)
+number-tells (Some Emoji) (Some Emoji) e = refl
 
 -- A run of at most one selector is determined by its first selector.
 one_at_most : (s : List Presentation) → length s ≤ 1 → run_with (first_asked s) 1 ≡ s
@@ -74,18 +72,18 @@ one_at_most [] h = refl
 one_at_most (q ∷ []) h = refl
 one_at_most (q ∷ r ∷ s) h = absurd (omega arith)
 
-first_is : (a : FromSelector) → first_asked (run_with a 1) ≡ a
+first_is : (a : Option Presentation) → first_asked (run_with a 1) ≡ a
 unfolding run_with first_asked
-first_is NoSelector = refl
-first_is (Selector q) = refl
+first_is None = refl
+first_is (Some q) = refl
 
-few_are : (a : FromSelector) → length (run_with a 1) ≤ 1
+few_are : (a : Option Presentation) → length (run_with a 1) ≤ 1
 unfolding run_with
-few_are NoSelector = omega arith
-few_are (Selector q) = omega arith
+few_are None = omega arith
+few_are (Some q) = omega arith
 
 -- The rules count nothing exactly if the selectors are just the selector that stays.
-pub no_change : (p : Policy) (c : ℕ) (k : Class) (s : List Presentation) (a : FromSelector) → run_with a 1
+pub no_change : (p : Policy) (c : ℕ) (k : Class) (s : List Presentation) (a : Option Presentation) → run_with a 1
     ≡ chosen (outcome p c k s).slot []
     → (eqb (selector_number (first_asked s)) (selector_number a) && leb (3 * length s) 3) ≡ eqb (total (outcome p c k s).counts) 0
 no_change p c k s a h = same_test _ _ quiet loud
@@ -96,7 +94,7 @@ no_change p c k s a h = same_test _ _ quiet loud
         let b = both_true (eqb (selector_number (first_asked s)) (selector_number a)) (leb (3 * length s) 3) t in
         let f : first_asked s ≡ a = number-tells (first_asked s) a (eqb-true _ _ b.0) in
         let l : length s ≤ 1 = omega (arith, leb-true (3 * length s) 3 b.1) in
-        let e : chosen (outcome p c k s).slot [] ≡ s = sym h ∙ ap (λ (x : FromSelector). run_with x 1) (sym f) ∙ one_at_most s l in
+        let e : chosen (outcome p c k s).slot [] ≡ s = sym h ∙ ap (λ (x : Option Presentation). run_with x 1) (sym f) ∙ one_at_most s l in
         let z : (outcome p c k s).counts ≡ empty = ap (λ (x : List Presentation). (outcome p c k x).counts) (sym e) ∙ settles p c k s [] in
         eq-eqb _ 0 (ap total z)
 
@@ -155,7 +153,8 @@ module _ (text : List ℕ) (at : ℕ) where
 
 -- ---- a base as the code reads it
 
-pub base_read : (p : Policy) (text : List ℕ) (base at : ℕ) (first : FromSelector) (end : ℕ) (k : Class) (a : FromSelector) (m : Bool)
+pub base_read : (p : Policy) (text : List ℕ) (base at : ℕ) (first : Option Presentation) (end : ℕ) (k : Class) (a : Option Presentation)
+    (m : Bool)
     → first ≡ first_asked (leading (chars (drop at text))) → end ≡ at + 3 * length (leading (chars (drop at text)))
     → SameRules k (class_in_front (chars (drop end text)))
     → ((n : ℕ) → run_with a 1 ≡ chosen (outcome p base k (run_with first n)).slot []) → m
@@ -172,7 +171,7 @@ base_read p text base at first end k a m f e h s q =
       end_is = e;
       selector_is = u;
       present_is =
-          q ∙ ap₂ (λ (x : FromSelector) (n : ℕ). not (eqb (selector_number x) (selector_number a) && leb n 3)) f w
+          q ∙ ap₂ (λ (x : Option Presentation) (n : ℕ). not (eqb (selector_number x) (selector_number a) && leb n 3)) f w
           ∙ ap not (no_change p base (following (cells t)) (leading t) a u);
     }
 
@@ -252,7 +251,7 @@ module _ (p : Policy) {text : List ℕ} {at v w : ℕ} (h : Step text at v w) (e
 -- Formatting removes the selector and all selectors after it.
 pub change_at_selector : (p : Policy) {text : List ℕ} {at w : ℕ} (q : Presentation) → Step text at (as_selector q) w → (end : ℕ) → end
     ≡ End text (at + w)
-    → ChangeAt p text at (record { start = at; selector = NoSelector; end = end; present = true })
+    → ChangeAt p text at (record { start = at; selector = None; end = end; present = true })
 unfolding format_cells total_cells run_with encode_all
 change_at_selector p {text} {at} {w} q h end e =
     let s = split_selector q (chars (drop (at + w) text)) in
@@ -281,10 +280,10 @@ change_at_selector p {text} {at} {w} q h end e =
 
 -- ---- a character with a variation entry is no selector
 
-pub entry_no_selector : (c i : ℕ) → variation_sequence_index c ≡ At i → is_selector c ≡ false
+pub entry_no_selector : (c i : ℕ) → variation_sequence_index c ≡ Some i → is_selector c ≡ false
 unfolding VariationEntriesAreEmoji
 entry_no_selector c i e = emoji_no_selector c (variation_entries_are_emoji c (has_entry c i e))
 
-pub plain_char : (c : ℕ) → variation_sequence_index c ≡ NoEntry → from_selector c ≡ NoSelector → StaysAlone c
+pub plain_char : (c : ℕ) → variation_sequence_index c ≡ None → from_selector c ≡ None → StaysAlone c
 unfolding NoIndexNoEntry
 plain_char c e f = record { no_entry = (no_index_no_entry c).0 e; no_selector = other_value c f }

@@ -1,4 +1,5 @@
 -- The selector that the code keeps after a base is the one that the rules leave, by the first selector and the class of the next character.
+use Rattle.std.specs.Prelude.{Some, Option}
 use mathlib.Core.Path.{◌≡◌, refl, ap, sym, ◌∙◌, subst}
 use mathlib.Core.Bool.{Bool, cond}
 use mathlib.Core.List.{List, [], ◌∷◌}
@@ -10,8 +11,6 @@ use lib.ListN.{drop, length}
 use Rattle.utf8.specs.Rfc3629.{chars, packed, read_char}
 use Rattle.utf8.proofs.Packed.{packed_step, packed_stop}
 use Rattle.emoji.specs.Unicode.{is_emoji_default, is_emoji_modifier_base, variation_sequence_index}
-use Rattle.emoji.specs.declared.VariationSequenceIndex.TheVariants.{At}
-use Rattle.emoji.specs.declared.presentation.FromSelector.{FromSelector}
 use Rattle.emoji.specs.declared.presentation.Presentation.{Presentation}
 use Rattle.policy.specs.Policy.{entry_rule, singleton_rule}
 use Rattle.policy.specs.declared.Policy.{Policy}
@@ -45,7 +44,7 @@ use Rattle.text_pass.proofs.RuleClasses.{rules_before, same_outcome}
 
 -- ---- the rule that applies
 
-module _ (p : Policy) (c i : ℕ) (e : variation_sequence_index c ≡ At i) (a r : FromSelector) where
+module _ (p : Policy) (c i : ℕ) (e : variation_sequence_index c ≡ Some i) (a r : Option Presentation) where
   by_rule : (k : Class) (n : ℕ) (o : Outcome) → outcome p c k (run_with a n) ≡ o → run_with r 1 ≡ chosen o.slot [] → run_with r 1
       ≡ chosen (outcome p c k (run_with a n)).slot []
   by_rule k n o f h = h ∙ ap (λ (x : Outcome). chosen x.slot []) (sym f)
@@ -126,10 +125,11 @@ module _ (p : Policy) (text : List ℕ) (base at : ℕ) where
       front_class (chars (drop end text)) (ap (λ (a : List Presentation × List Cell). a.0) s)
       ∙ ap (λ (a : List Presentation × List Cell). following a.1) s
 
-  pub outcome-read : (first : FromSelector) (end : ℕ) (k : Class) → first ≡ first_asked (leading T) → end ≡ at + 3 * length (leading T)
+  pub outcome-read : (first : Option Presentation) (end : ℕ) (k : Class) → first ≡ first_asked (leading T)
+      → end ≡ at + 3 * length (leading T)
       → SameRules k (class_in_front (chars (drop end text)))
       → outcome p base k (run_with first (length (leading T))) ≡ outcome_from p text base at
   outcome-read first end k f e h =
       same_outcome p base (run_with first (length (leading T))) (subst (SameRules k) (follows end e) h)
-      ∙ ap (λ (x : FromSelector). outcome p base (following (cells T)) (run_with x (length (leading T)))) f
+      ∙ ap (λ (x : Option Presentation). outcome p base (following (cells T)) (run_with x (length (leading T)))) f
       ∙ sym (by-numbers p base (following (cells T)) (leading T))

@@ -1,8 +1,8 @@
 -- The walk through items of links and units, cell by cell: the invariant of the loop, and what each turn does to it.
+use Rattle.std.specs.Prelude.{Some, None, Option}
 use mathlib.Core.Path.{◌≡◌, refl, ap, ap₂, sym, ◌∙◌, subst}
 use mathlib.Core.Logic.{inl, inr, ⊎_elim}
 use mathlib.Core.Bool.{Bool, true, false, ◌&&◌, ◌||◌, and-false, cond, not, true≢false}
-use mathlib.Core.Option.{none, some}
 use mathlib.Core.List.{List, [], ◌∷◌, ◌++◌}
 use Prim.Native.Nat.{ℕ, zero, suc, ◌+◌, ◌*◌, ◌-◌, ◌/◌, ◌%◌, ◌≤◌, ◌<◌}
 use native.Mathlib.Omega.{arith}
@@ -19,9 +19,6 @@ use Rattle.utf8.proofs.Places.{Step}
 use Rattle.emoji.specs.Presentation.{is_selector}
 use Rattle.emoji.specs.Unicode.{variation_sequence_index}
 use Rattle.emoji.specs.Theorems.{NoIndexNoEntry}
-use Rattle.emoji.specs.declared.VariationSequenceIndex.{VariationSequenceIndex}
-use Rattle.emoji.specs.declared.VariationSequenceIndex.TheVariants.{NoEntry}
-use Rattle.emoji.specs.declared.presentation.FromSelector.{FromSelector}
 use Rattle.emoji.specs.declared.presentation.Presentation.{Presentation}
 use Rattle.emoji.proofs.Claims.{no_index_no_entry}
 use Rattle.policy.specs.declared.Policy.{Policy}
@@ -32,7 +29,6 @@ use Rattle.scanner.specs.Spans.{size, width}
 use Rattle.scanner.specs.Theorems.{Structured}
 use Rattle.scanner.specs.declared.char_class.Class.{Class}
 use Rattle.scanner.specs.declared.char_class.Class.TheVariants.{Other as other, Selector as selector}
-use Rattle.scanner.specs.declared.state.Next.TheVariants as Next
 use Rattle.scanner.specs.declared.state.State.{State}
 use Rattle.scanner.specs.declared.state.State.TheVariants.{
   Plain as plain,
@@ -76,16 +72,16 @@ use Rattle.text_pass.proofs.RuleClasses.{same_outcome}
 
 -- ---- whether the rules count something for a cell
 
-pub entry_changes : (p : Policy) (c : ℕ) (k : Class) (s : List Presentation) (first a : FromSelector) (bytes : ℕ) (m : Bool)
+pub entry_changes : (p : Policy) (c : ℕ) (k : Class) (s : List Presentation) (first a : Option Presentation) (bytes : ℕ) (m : Bool)
     → first ≡ first_asked s → bytes ≡ 3 * length s → ((n : ℕ) → run_with a 1 ≡ chosen (outcome p c k (run_with first n)).slot [])
     → m ≡ not (eqb (selector_number first) (selector_number a) && leb bytes 3) → m ≡ not (eqb (total (outcome p c k s).counts) 0)
 entry_changes p c k s first a bytes m f b h q =
-    q ∙ ap₂ (λ (x : FromSelector) (n : ℕ). not (eqb (selector_number x) (selector_number a) && leb n 3)) f b
+    q ∙ ap₂ (λ (x : Option Presentation) (n : ℕ). not (eqb (selector_number x) (selector_number a) && leb n 3)) f b
     ∙ ap not (no_change p c k s a (h (length s)
     ∙ ap (λ (x : Outcome). chosen x.slot [])
-    (ap (λ (x : FromSelector). outcome p c k (run_with x (length s))) f ∙ sym (by-numbers p c k s))))
+    (ap (λ (x : Option Presentation). outcome p c k (run_with x (length s))) f ∙ sym (by-numbers p c k s))))
 
-pub no_entry_changes : (p : Policy) (c : ℕ) (k : Class) (s : List Presentation) (bytes : ℕ) → variation_sequence_index c ≡ NoEntry → bytes
+pub no_entry_changes : (p : Policy) (c : ℕ) (k : Class) (s : List Presentation) (bytes : ℕ) → variation_sequence_index c ≡ None → bytes
     ≡ 3 * length s
     → not (eqb bytes 0) ≡ not (eqb (total (outcome p c k s).counts) 0)
 unfolding NoIndexNoEntry rule1
@@ -97,7 +93,7 @@ no_entry_changes p c k s bytes e b =
     (le_or_lt 1 (length s)))
 
 -- What the code reads of a cell and of the character after it.
-pub read_end : (p : Policy) (text : List ℕ) (base at : ℕ) (first : FromSelector) (end n : ℕ) (k : Class) (i : VariationSequenceIndex)
+pub read_end : (p : Policy) (text : List ℕ) (base at : ℕ) (first : Option Presentation) (end n : ℕ) (k : Class) (i : Option ℕ)
     (m : Bool)
     → first ≡ first_asked (leading (chars (drop at text))) → end ≡ at + 3 * length (leading (chars (drop at text))) → n
     ≡ packed (read_char (drop end text))
@@ -139,7 +135,7 @@ not_plain q o e = miss (1 ∷ 2 ∷ 3 ∷ 4 ∷ 5 ∷ 6 ∷ []) 0 tt
 abbrev pub Keeps : ℕ → ℕ → NonCanonicality → NonCanonicality → Type 0
 Keeps limit start sum counts = (limit ≤ start → counts ≡ sum) × (start < limit → counts ≡ empty)
 
-pub record Walking (p : Policy) (text : List ℕ) (limit from start base : ℕ) (index : VariationSequenceIndex) (at : ℕ) (state : State)
+pub record Walking (p : Policy) (text : List ℕ) (limit from start base : ℕ) (index : Option ℕ) (at : ℕ) (state : State)
     (changed : Bool) (n : ℕ) (counts : NonCanonicality) : Type 0 where
   pub passed : FindingsBetween p text limit from start n
   pub entry : variation_sequence_index base ≡ index
@@ -164,7 +160,7 @@ pub record Walking (p : Policy) (text : List ℕ) (limit from start base : ℕ) 
   pub kept : Keeps limit start sum counts
 
 pub walking_begin : (p : Policy) (text : List ℕ) (limit from : ℕ) {start v w n : ℕ} {counts : NonCanonicality}
-    (index : VariationSequenceIndex)
+    (index : Option ℕ)
     → FindingsBetween p text limit from start n → counts ≡ empty → Step text start v w
     → variation_sequence_index v ≡ index → inner (start_state (class_of v)) ≡ true
     → Walking p text limit from start v index (start + w) (start_state (class_of v)) false n counts
@@ -195,7 +191,7 @@ walking_begin p text limit from {start} {v} {w} index a z h e i = record {
 }
 
 -- In a state of links or units, a character of the class other ends the item.
-inner-other : (q : State) → inner q ≡ true → transition q other ≡ none
+inner-other : (q : State) → inner q ≡ true → transition q other ≡ None
 unfolding transition
 inner-other plain e = absurd (true≢false (sym e))
 inner-other selectors e = absurd (true≢false (sym e))
@@ -225,7 +221,7 @@ begins_inner k s q = go (start_state k) refl
     go joined e = refl
     go left_over e = refl
 
-module _ {p : Policy} {text : List ℕ} {limit from start base : ℕ} {index : VariationSequenceIndex} {at : ℕ} {state : State}
+module _ {p : Policy} {text : List ℕ} {limit from start base : ℕ} {index : Option ℕ} {at : ℕ} {state : State}
     {changed : Bool} {n : ℕ} {counts : NonCanonicality}
     (l : Walking p text limit from start base index at state changed n counts) {cell : CellEnd} (c : ReadsCell p text base at cell) where
   abbrev T : List ℕ
@@ -289,7 +285,7 @@ module _ {p : Policy} {text : List ℕ} {limit from start base : ℕ} {index : V
       cell-counts =
           let i : (cell.end - at) / 3 ≡ length (leading T) = omega (arith, c.end_is) in
           ap (λ (o : Outcome). o.counts)
-          (ap₂ (λ (f : FromSelector) (m : ℕ). outcome p base cell.class (run_with f m)) c.first_is i
+          (ap₂ (λ (f : Option Presentation) (m : ℕ). outcome p base cell.class (run_with f m)) c.first_is i
           ∙ sym (by-numbers p base cell.class (leading T)) ∙ c.outcome_is)
 
       after-limit : (x : Bool) → cell.changes ≡ x → limit ≤ start → k ≡ Sum
@@ -333,7 +329,7 @@ module _ {p : Policy} {text : List ℕ} {limit from start base : ℕ} {index : V
         go (at_char {c = x} n) e = let z : x ≡ v = cc in subst (λ (y : ℕ). is_selector y ≡ false) z n
 
     -- A character stands there if the item continues, or if links or a unit start.
-    pub on-char : (q : State) → next_of (transition state cell.class) ≡ Next.On q → 1 ≤ cell.packed
+    pub on-char : (q : State) → next_of (transition state cell.class) ≡ Some q → 1 ≤ cell.packed
     on-char q e = ⊎_elim (λ h. h) (λ h. absurd (true≢false (no (omega arith)))) (le_or_lt 1 cell.packed)
       where
         no : cell.packed ≡ 0 → true ≡ false
@@ -345,18 +341,18 @@ module _ {p : Policy} {text : List ℕ} {limit from start base : ℕ} {index : V
     begin-char q = ⊎_elim (λ h. h) (λ h. absurd (q (ap start_state (other-class (omega arith))))) (le_or_lt 1 cell.packed)
 
     -- The item continues with that character.
-    pub walking_on : {k : NonCanonicality} → Keeps limit start Sum k → (q : State) → next_of (transition state cell.class) ≡ Next.On q
+    pub walking_on : {k : NonCanonicality} → Keeps limit start Sum k → (q : State) → next_of (transition state cell.class) ≡ Some q
         → Walking p text limit from start (cell.packed / 8) cell.index (cell.end + cell.packed % 8) q b n k
     walking_on {k} y q e = go (on-char q e)
       where
-        on : transition state cell.class ≡ some q
+        on : transition state cell.class ≡ Some q
         on = next-on (transition state cell.class) q e
 
         go : 1 ≤ cell.packed → Walking p text limit from start (cell.packed / 8) cell.index (cell.end + cell.packed % 8) q b n k
         go h =
             let s = reads-next h in
             let v = cell.packed / 8 in
-            let m : transition state (class_of v) ≡ some q = ap (transition state) (sym c.class_is) ∙ on in
+            let m : transition state (class_of v) ≡ Some q = ap (transition state) (sym c.class_is) ∙ on in
             let t = chars (drop (cell.end + cell.packed % 8) text) in
             let f : (split_from state U).0 ≡ v ∷ (split_from q t).0 = ap (λ (x : List ℕ). (split_from state x).0) s.chars_on
             ∙ ap (λ (a : List ℕ × List Item). a.0) (split_from-some state q v t m) in
@@ -382,7 +378,7 @@ module _ {p : Policy} {text : List ℕ} {limit from start base : ℕ} {index : V
             }
 
     -- The item ends before that character.
-    module _ (e : next_of (transition state cell.class) ≡ Next.Stop) where
+    module _ (e : next_of (transition state cell.class) ≡ None) where
       split_from-empty : (split_from state U).0 ≡ []
       unfolding split_from
       split_from-empty = ⊎_elim go (λ h. ap (λ (x : List ℕ). (split_from state x).0) (no_char (omega arith))) (le_or_lt 1 cell.packed)
@@ -390,7 +386,7 @@ module _ {p : Policy} {text : List ℕ} {limit from start base : ℕ} {index : V
           go : 1 ≤ cell.packed → (split_from state U).0 ≡ []
           go h =
               let s = reads-next h in
-              let m : transition state (class_of (cell.packed / 8)) ≡ none = ap (transition state) (sym c.class_is)
+              let m : transition state (class_of (cell.packed / 8)) ≡ None = ap (transition state) (sym c.class_is)
               ∙ next_stop (transition state cell.class) e in
               ap (λ (x : List ℕ). (split_from state x).0) s.chars_on
               ∙ ap (λ (a : List ℕ × List Item). a.0)

@@ -1,5 +1,6 @@
 -- Contracts of helper functions: where formatting changes a text (document 01, "Replacement and text"). `NextChange` says which bytes stay
 -- from an offset on, and what the next change is. The formatted text and the totals are those of crates/analysis/specs/CellView.antt.
+use Rattle.emoji.specs.declared.presentation.Presentation.{Presentation}
 use Rattle.std.specs.Prelude.{
   ◌≡◌,
   ◌⊎◌,
@@ -22,12 +23,13 @@ use Rattle.std.specs.Prelude.{
   drop,
   length,
   take,
+  Some,
+  None,
+  Option,
 }
 use Rattle.utf8.specs.Rfc3629.{chars, encode_all, valid_up_to_of}
 use Rattle.emoji.specs.Presentation.{as_selector}
 use Rattle.emoji.specs.Unicode.{has_variation_sequence}
-use Rattle.emoji.specs.declared.presentation.FromSelector.{FromSelector}
-use Rattle.emoji.specs.declared.presentation.FromSelector.TheVariants.{NoSelector, Selector}
 use Rattle.emoji.specs.declared.presentation.Presentation.TheVariants.{Emoji, Text}
 use Rattle.policy.specs.Policy.{singleton_rule}
 use Rattle.policy.specs.declared.Policy.{Policy}
@@ -43,7 +45,7 @@ use Rattle.analysis.specs.declared.singleton.Slot.{Slot}
 use Rattle.text_pass.specs.declared.Change.{Change}
 
 -- The bytes of a selector; `NoSelector` has none.
-abbrev pub selector_bytes : FromSelector → List ℕ
+abbrev pub selector_bytes : Option Presentation → List ℕ
 selector_bytes s = encode_all (map as_selector (run_with s 1))
 
 -- The offset `to` is not before `from`, lies inside the text if `from` does, and all bytes between the two are characters.
@@ -82,7 +84,7 @@ module _ (p : Policy) (text : List ℕ) where
     pub stays : UnchangedBetween from c.end
     pub ends : chars (drop c.end text) ≡ []
     pub start-is-end : c.start ≡ c.end
-    pub no_selector : c.selector ≡ NoSelector
+    pub no_selector : c.selector ≡ None
 
   -- If a change is present, it is the first one from the offset `at` on. If not, formatting keeps at least one byte from there on.
   abbrev pub ChangeAt : ℕ → Change → Type 0
@@ -109,10 +111,10 @@ pub record SameRules (j k : Class) : Type 0 where
   pub keycap : by_keycap j ≡ by_keycap k
 
 -- The selector that has a number.
-unfoldable pub selector_of : ℕ → FromSelector
-selector_of zero = NoSelector
-selector_of (suc zero) = Selector Text
-selector_of (suc (suc n)) = Selector Emoji
+unfoldable pub selector_of : ℕ → Option Presentation
+selector_of zero = None
+selector_of (suc zero) = Some Text
+selector_of (suc (suc n)) = Some Emoji
 
 -- A rule whose slot is `s` leaves the selector with the number `r` after a base (document 01, "Replacement and text").
 pub record LeavesSelector (s : Slot) (r : ℕ) : Type 0 where

@@ -21,16 +21,15 @@ use crate::base_selectors::{is_change, kept_number, number_of, selectors_after};
 use crate::plain::{skip_ascii, skip_letters};
 use analysis::singleton::analyze_by_index;
 use analysis::types::NonCanonicality;
-use emoji::VariationSequenceIndex;
-use emoji::presentation::FromSelector;
+use emoji::presentation::Presentation;
 use scanner::char_class::{Class, Classified, classify};
 use scanner::selectors::{SELECTOR_BYTES, selector_at, selectors_end};
-use scanner::state::{Next, State};
+use scanner::state::State;
 
 // The next finding: its bytes, from `start` up to `end`, and its eight counts if it does not start before the limit. Where no finding is
 // left, `present` is false, both offsets are the end of the longest well-formed beginning, and the counts are empty. `passed` is the number
-// of findings passed before it.
-#[derive(Clone, Copy)]
+// of findings passed before it. The fields count in both cases, so an `Option` would not hold them.
+#[derive(Clone, Copy, Debug, PartialEq, Eq)]
 pub struct FindingSpan {
     pub start: usize,
     pub end: usize,
@@ -41,14 +40,14 @@ pub struct FindingSpan {
 
 // The rest of a cell, after its character: where its selectors end, the first of them, and whether the rules count anything. Then the
 // character after the cell: its packed number (0 where there is none), its class and its index among the variation entries.
-#[derive(Clone, Copy)]
+#[derive(Clone, Copy, Debug, PartialEq, Eq)]
 struct CellEnd {
     end: usize,
-    first: FromSelector,
+    first: Option<Presentation>,
     changes: bool,
     packed: u32,
     class: Class,
-    index: VariationSequenceIndex,
+    index: Option<usize>,
 }
 
 // Whether the rules count anything for a base. `next` is the class of the character after its selectors, `first` is the first selector, and
@@ -56,9 +55,9 @@ struct CellEnd {
 fn cell_changes(
     policy: &[u8],
     base: u32,
-    index: VariationSequenceIndex,
+    index: Option<usize>,
     next: Class,
-    first: FromSelector,
+    first: Option<Presentation>,
     bytes: usize,
 ) -> bool
     requires { variation_sequence_index base ≡ index }
@@ -66,22 +65,16 @@ fn cell_changes(
         ≡ not (eqb (total (outcome (policy_of policy.now) base next s).counts) 0) }
 {
     match index {
-        VariationSequenceIndex::At(i) => {
+        Some(i) => {
             let number = number_of(first);
             is_change(number, bytes, kept_number(policy, base, i, next, number))
         }
-        VariationSequenceIndex::NoEntry => bytes != 0,
+        None => bytes != 0,
     }
 }
 
 // Reads the rest of a cell, and the character after it. The cell's character is `base`, and its selectors begin at the offset.
-fn read_cell(
-    text: &[u8],
-    policy: &[u8],
-    base: u32,
-    index: VariationSequenceIndex,
-    at: usize,
-) -> CellEnd
+fn read_cell(text: &[u8], policy: &[u8], base: u32, index: Option<usize>, at: usize) -> CellEnd
     requires { variation_sequence_index base ≡ index }
     ensures { ReadsCell (policy_of policy.now) text.now base at result }
 {
@@ -104,20 +97,14 @@ fn read_cell(
 fn is_wanted(changes: bool, limit: usize, start: usize) -> bool
     ensures { result ≡ changes && leb limit start }
 {
-    if !changes {
-        return false;
-    }
-    limit <= start
+    changes && limit <= start
 }
 
 // Whether an item is a finding that ends after the limit. `changed` says whether the rules count something in it.
 fn ends_after(changed: bool, limit: usize, end: usize) -> bool
     ensures { result ≡ changed && ltb limit end }
 {
-    if !changed {
-        return false;
-    }
-    limit < end
+    changed && limit < end
 }
 
 // Adds the counts of a cell if they are wanted. `bytes` is the length of the cell's selectors.
@@ -126,9 +113,9 @@ fn add_cell(
     wanted: bool,
     policy: &[u8],
     base: u32,
-    index: VariationSequenceIndex,
+    index: Option<usize>,
     next: Class,
-    first: FromSelector,
+    first: Option<Presentation>,
     bytes: usize,
 ) -> NonCanonicality
     requires { variation_sequence_index base ≡ index }
@@ -146,10 +133,7 @@ fn add_cell(
 fn findings_of(changed: bool) -> usize
     ensures { (result ≡ cond changed 1 0) × (result ≤ 1) }
 {
-    if changed {
-        return 1;
-    }
-    0
+    usize::from(changed)
 }
 
 // Walks through items, from one of links or units on, whose first character is known. It passes items that are no findings and findings
@@ -161,7 +145,7 @@ fn walk_items(
     from: usize,
     ch: u32,
     width: usize,
-    first_index: VariationSequenceIndex,
+    first_index: Option<usize>,
     first: State,
 ) -> FindingSpan
     requires { (read_char (drop from text.now) ≡ Char ch width) × (variation_sequence_index ch ≡ first_index)
@@ -196,10 +180,10 @@ fn walk_items(
             changed = true;
         }
         match scanner::state::transition(state, class) {
-            Next::On(next) => {
+            Some(next) => {
                 state = next;
             }
-            Next::Stop => {
+            None => {
                 if ends_after(changed, limit, end) {
                     return FindingSpan {
                         start,

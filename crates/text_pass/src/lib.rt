@@ -14,17 +14,17 @@ ghost use Rattle.policy.specs.PolicyBytes.{policy_of};
 ghost use Rattle.text_pass.specs.Changes.{ChangeAt, NextChange};
 
 use base_selectors::base_change;
-use emoji::VariationSequenceIndex;
-use emoji::presentation::{FromSelector, Presentation};
+use emoji::presentation::Presentation;
 use plain::{skip_alike, skip_plain};
 use scanner::selectors::selectors_end;
 
 // A change of a text: formatting keeps the bytes before `start`, and writes `selector`, or nothing, for the bytes from `start` up to
-// `end`. Where no change is left, `present` is false, and both offsets are the end of the longest well-formed beginning.
-#[derive(Clone, Copy)]
+// `end`. Where no change is left, `present` is false, and both offsets are the end of the longest well-formed beginning: the offsets count
+// in both cases, so an `Option` would not hold them.
+#[derive(Clone, Copy, Debug, PartialEq, Eq)]
 pub struct Change {
     pub start: usize,
-    pub selector: FromSelector,
+    pub selector: Option<Presentation>,
     pub end: usize,
     pub present: bool,
 }
@@ -37,25 +37,23 @@ fn change_at(text: &[u8], policy: &[u8], at: usize, ch: u32, width: usize) -> Ch
     ensures { ChangeAt (policy_of policy.now) text.now at result }
 {
     let next = at + width;
-    match emoji::variation_sequence_index_by_block(ch) {
-        VariationSequenceIndex::At(index) => base_change(text, policy, ch, index, next),
-        VariationSequenceIndex::NoEntry => match Presentation::from_selector(ch) {
-            FromSelector::Selector(_) => Change {
-                start: at,
-                selector: FromSelector::NoSelector,
-                end: selectors_end(text, next),
-                present: true,
-            },
-            FromSelector::NoSelector => {
-                let end = skip_alike(text, next, ch);
-                Change {
-                    start: end,
-                    selector: FromSelector::NoSelector,
-                    end,
-                    present: false,
-                }
-            }
-        },
+    if let Some(index) = emoji::variation_sequence_index_by_block(ch) {
+        return base_change(text, policy, ch, index, next);
+    }
+    if let Some(_) = Presentation::from_selector(ch) {
+        return Change {
+            start: at,
+            selector: None,
+            end: selectors_end(text, next),
+            present: true,
+        };
+    }
+    let end = skip_alike(text, next, ch);
+    Change {
+        start: end,
+        selector: None,
+        end,
+        present: false,
     }
 }
 
@@ -71,7 +69,7 @@ pub fn next_change(text: &[u8], policy: &[u8], from: usize) -> Change
         if packed == 0 {
             return Change {
                 start: at,
-                selector: FromSelector::NoSelector,
+                selector: None,
                 end: at,
                 present: false,
             };

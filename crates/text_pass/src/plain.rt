@@ -18,24 +18,14 @@ fn is_plain_at(text: &[u8], at: usize) -> bool
     requires { at < length text.now }
     ensures { result ≡ true → (v w : ℕ) → read_char (drop at text.now) ≡ Char v w → class_of v ≡ other }
 {
-    let first = text[at];
-    if first < 0xC3 {
-        return false;
-    }
-    if 0xEE < first {
-        return false;
-    }
-    if first == 0xE2 {
-        return false;
-    }
-    if first == 0xE3 {
-        let second = base::byte_at(text, at, 1);
-        if second == 0x80 {
-            return false;
+    match text[at] {
+        ..0xC3 | 0xE2 | 0xEF.. => false,
+        0xE3 => {
+            let second = base::byte_at(text, at, 1);
+            second != 0x80 && second != 0x8A
         }
-        return second != 0x8A;
+        _ => true,
     }
-    true
 }
 
 // Skips characters that are plain by their first bytes.
@@ -57,22 +47,11 @@ pub(crate) fn skip_letters(text: &[u8], from: usize) -> usize
 }
 
 // Whether an ASCII character is a base: #, * and the digits are.
+#[tactic(auto, using(crate::proofs::PlainText::ascii_other))]
 fn is_ascii_base(ch: u8) -> bool
     ensures { result ≡ false → ch ≤ 0x7F → class_of ch ≡ other }
 {
-    if ch < 0x23 {
-        return false;
-    }
-    if 0x39 < ch {
-        return false;
-    }
-    if 0x30 <= ch {
-        return true;
-    }
-    if ch == 0x23 {
-        return true;
-    }
-    ch == 0x2A
+    matches!(ch, b'#' | b'*' | b'0'..=b'9')
 }
 
 // Skips the run of ASCII characters from one on. It does not skip a base at the end of the run, unless the text ends there.

@@ -1,35 +1,49 @@
--- The cases of `open_text` and `advance`: the verdict on a text with the scanner's first offset, and a scanner's answer with the
--- place after it.
-use mathlib.Core.Path.{◌≡◌, ap, sym, ◌∙◌}
-use mathlib.Core.List.{List}
-use Prim.Native.Nat.{ℕ}
-use lib.ListN.{length}
-use Rattle.base.specs.declared.Check.{Check}
-use Rattle.base.specs.declared.Check.TheVariants.{Passed, Refused}
-use Rattle.base.specs.declared.Refusal.{Refusal}
-use Rattle.text_scanner.specs.Helpers.{advanced, opened}
-use Rattle.text_scanner.specs.Scanner.{Place, answer_at, place_after_step, start_of, verdict_of}
+-- A scanner as an iterator over the items that it has left: a call of `next` gives the first of them, and the n-th is found by n more
+-- calls.
+use Rattle.std.specs.Prelude.{Some, None, Option}
+use Rattle.std.specs.List.{slice_get}
+use Rattle.std.specs.Option.{option_map}
+use Rattle.std.specs.Iterator.{YieldsFirst, MakesProgress, item_count}
+use Rattle.std.proofs.Common.{rules, arith}
+use mathlib.Core.Path.{◌≡◌, refl, ap, sym, ◌∙◌, subst}
+use mathlib.Core.List.{List, [], ◌∷◌}
+use Prim.Native.Nat.{ℕ, zero, suc}
+use lib.ListN.{drop}
+use lib.Seq.{drop-nil}
+use Rattle.scanner.specs.Spans.{first_of, scan_at}
 use Rattle.scanner.specs.declared.ScanItem.{ScanItem}
-use Rattle.scanner.specs.declared.ScanStep.{ScanStep}
-use Rattle.scanner.specs.declared.ScanStep.TheVariants.{End, Item}
-use Rattle.text_scanner.specs.declared.Advanced.{Advanced}
-use Rattle.text_scanner.specs.declared.Opened.{Opened}
+use Rattle.scanner.proofs.Spans.{scan-after}
+use Rattle.text_scanner.specs.Scanner.{answer_at, at_place, items_left, place_after_step, place_of}
+use Rattle.text_scanner.specs.declared.Scanner.{Scanner}
 
-abbrev moved : ScanStep → Place → Advanced
-moved s p = record { step = s; offset = p.offset; chars = p.chars; units = p.units }
+-- The step of a scanner, for the items that are left.
+abbrev Step : Scanner → Option ScanItem → Type 0
+Step s r = YieldsFirst items_left s r (at_place s (place_after_step r (place_of s)))
 
-abbrev started : Check → ℕ → Opened
-started v at = record { verdict = v; offset = at }
+step : (s : Scanner) → Step s (answer_at s.text.now (place_of s))
+unfolding scan_at first_of
+step s = go (items_left s) refl
+  where
+    go : (xs : List ScanItem) → items_left s ≡ xs → Step s (first_of xs)
+    go [] e = (e, e)
+    go (x ∷ xs) e = e ∙ ap (λ (l : List ScanItem). x ∷ l) (sym (scan-after s.text.now s.offset _ [] x xs e))
 
-pub advance_item : (text : List ℕ) (p : Place) {r : ScanStep} (x : ScanItem) → r ≡ answer_at text p → r ≡ Item x
-    → moved (Item x) (place_after_step (Item x) p) ≡ advanced text p
-advance_item text p x e t = ap (λ (s : ScanStep). moved s (place_after_step s p)) (sym t ∙ e)
+pub yields : (s t : Scanner) (r : Option ScanItem) → r ≡ answer_at s.text.now (place_of s)
+    → t ≡ at_place s (place_after_step r (place_of s)) → YieldsFirst items_left s r t
+yields s t r a b = subst (λ (u : Scanner). YieldsFirst items_left s r u) (sym b) (subst (Step s) (sym a) (step s))
 
-pub advance_end : (text : List ℕ) (p : Place) {r : ScanStep} → r ≡ answer_at text p → r ≡ End → moved r p ≡ advanced text p
-advance_end text p e t = ap (λ (s : ScanStep). moved s p) t ∙ ap (λ (s : ScanStep). moved s (place_after_step s p)) (sym t ∙ e)
+pub progress : (s t : Scanner) (r : Option ScanItem) → YieldsFirst items_left s r t
+    → MakesProgress (λ _. Unit {0}) (item_count items_left) s r t
+progress s t None y = search rules
+progress s t (Some x) y = grind (arith, y)
 
-pub open_passed : (text : List ℕ) {v : Check} → v ≡ verdict_of text → v ≡ Passed → started v 0 ≡ opened text
-open_passed text e t = ap (λ (c : Check). started c 0) t ∙ ap (λ (c : Check). started c (start_of c text)) (sym t ∙ e)
+get_is_first : (xs : List ScanItem) (n : ℕ) → slice_get xs n ≡ first_of (drop n xs)
+unfolding first_of
+get_is_first [] n = ap first_of (sym (drop-nil n))
+get_is_first (x ∷ xs) zero = refl
+get_is_first (x ∷ xs) (suc n) = get_is_first xs n
 
-pub open_refused : (text : List ℕ) {v : Check} (r : Refusal) → v ≡ verdict_of text → v ≡ Refused r → started v (length text) ≡ opened text
-open_refused text r e t = ap (λ (c : Check). started c (length text)) t ∙ ap (λ (c : Check). started c (start_of c text)) (sym t ∙ e)
+pub nth_is : (r : Option ScanItem) (xs : List ScanItem) (n : ℕ) → option_map (λ (x : ScanItem). x) r ≡ slice_get xs n
+    → r ≡ first_of (drop n xs)
+nth_is None xs n e = e ∙ get_is_first xs n
+nth_is (Some x) xs n e = e ∙ get_is_first xs n

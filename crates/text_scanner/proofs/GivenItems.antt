@@ -1,13 +1,13 @@
 -- Successive calls of a scanner answer the items of its text. The bytes of all items, one after the other, are the text.
+use Rattle.base.specs.declared.Refusal.{Refusal}
+use Rattle.std.specs.Prelude.{Ok, Err, Some, Result, ⊤}
 use mathlib.Core.Path.{◌≡◌, refl, ap, sym, ◌∙◌, subst}
 use mathlib.Core.List.{List, [], ◌∷◌, ◌++◌}
-use Prim.Native.Nat.{ℕ, zero, suc, ◌+◌, ◌-◌, ◌≤◌, ◌<◌}
+use Prim.Native.Nat.{ℕ, zero, suc, ◌+◌, ◌-◌, ◌≤◌}
 use native.Mathlib.Omega.{arith}
 use lib.ListN.{drop, length, length-drop, take}
 use lib.Seq.{drop-drop, drop-length, drop-nil, take-add}
 use borrow.Author.Tests.{le-leb}
-use Rattle.base.specs.declared.Check.{Check}
-use Rattle.base.specs.declared.Check.TheVariants.{Passed, Refused}
 use Rattle.utf8.specs.Rfc3629.{chars, encode_all, valid_up_to_of}
 use Rattle.utf8.proofs.Folds.{chars_end}
 use Rattle.utf8.proofs.Fronts.{read_char_nil}
@@ -15,26 +15,11 @@ use Rattle.utf8.proofs.Texts.{valid_up_to_le}
 use Rattle.positions.specs.Positions.{no_count}
 use Rattle.positions.specs.declared.TextCount.{TextCount}
 use Rattle.scanner.specs.Items.{Item, items}
-use Rattle.text_scanner.specs.Helpers.{item_in, left_after}
-use Rattle.text_scanner.specs.Scanner.{
-  Place,
-  answer_at,
-  items_at,
-  items_of,
-  join_raw,
-  nth_item,
-  part,
-  place_after,
-  place_after_step,
-  raw_of,
-  start_place,
-  verdict_of,
-}
+use Rattle.text_scanner.specs.Scanner.{Place, answer_at, items_at, items_of, join_raw, part, place_after}
+use Rattle.text_scanner.specs.Scanner.{place_after_step, start_place, verdict_of}
 use Rattle.scanner.specs.Spans.{first_of, scan, scan_at, scan_from, spans}
 use Rattle.scanner.specs.Theorems.{SpansOfItems, Tiles}
 use Rattle.scanner.specs.declared.ScanItem.{ScanItem}
-use Rattle.scanner.specs.declared.ScanStep.{ScanStep}
-use Rattle.scanner.specs.declared.ScanStep.TheVariants as Step
 use Rattle.scanner.proofs.Spans.{scan-after, scan-spans_of_items, scan_tiles, spans-first}
 
 -- ---- successive calls
@@ -62,31 +47,6 @@ pub gives-items : (text : List ℕ) (p : Place) (n : ℕ) → answer_at text (pl
 unfolding scan_at
 gives-items text p n = ap first_of (after-calls text p n)
 
--- ---- the number of calls left
-
--- At the end the place stays.
-at_end : (text : List ℕ) (p : Place) (n : ℕ) → answer_at text p ≡ Step.End → place_after text p n ≡ p
-unfolding place_after
-at_end text p zero e = refl
-at_end text p (suc n) e = ap (λ (s : ScanStep). place_after text (place_after_step s p) n) e ∙ at_end text p n e
-
--- One call, and then the calls that are left after its answer, lead to the same place as all n calls.
-pub one-call : (text : List ℕ) (p : Place) (n : ℕ) → 0 < n
-    → place_after text (place_after_step (answer_at text p) p) (left_after (answer_at text p) n) ≡ place_after text p n
-unfolding place_after
-one-call text p zero l = absurd (omega arith)
-one-call text p (suc n) l = go (answer_at text p) refl
-  where
-    go : (s : ScanStep) → answer_at text p ≡ s → place_after text (place_after_step s p) (left_after s (suc n))
-        ≡ place_after text (place_after_step (answer_at text p) p) n
-    go (Step.Item x) e = let d : suc n - 1 ≡ n = omega arith in ap (place_after text (place_after_step (Step.Item x) p)) d
-        ∙ ap (λ (t : ScanStep). place_after text (place_after_step t p) n) (sym e)
-    go Step.End e = sym (at_end text p n e) ∙ ap (λ (t : ScanStep). place_after text (place_after_step t p) n) (sym e)
-
-pub no_call : (text : List ℕ) (p : Place) {n : ℕ} → n ≡ 0 → place_after text p n ≡ p
-unfolding place_after
-no_call text p e = ap (place_after text p) e
-
 -- ---- the scanner that `scan` makes
 
 -- No item begins at the end of a text.
@@ -99,24 +59,15 @@ pub scan-gives : (text : List ℕ) → items_at text (start_place (verdict_of te
 unfolding scan
 scan-gives text = go (verdict_of text)
   where
-    go : (v : Check) → items_at text (start_place v text) ≡ items_of v text
-    go Passed = refl
-    go (Refused r) = none_after text no_count
-
--- After n calls the scanner that `scan` makes answers the n-th item.
-pub nth_answer : (text : List ℕ) (n : ℕ) → answer_at text (place_after text (start_place (verdict_of text) text) n) ≡ (nth_item text n).step
-nth_answer text n = gives-items text (start_place (verdict_of text) text) n
-    ∙ ap (λ (xs : List ScanItem). first_of (drop n xs)) (scan-gives text)
+    go : (v : Result ⊤ Refusal) → items_at text (start_place v text) ≡ items_of v text
+    go (Ok x) = refl
+    go (Err r) = none_after text no_count
 
 -- ---- the bytes of an item
 
 -- A part within the text has the bytes of the text there.
 part_is : (text : List ℕ) (start end : ℕ) → start ≤ end → end ≤ length text → part text start end ≡ take (end - start) (drop start text)
 part_is text start end l m = simp (le-leb start end l, le-leb end (length text) m)
-
-pub raw_item : (text : List ℕ) (s : ScanStep) → part text (item_in s).start (item_in s).end ≡ raw_of text s
-raw_item text (Step.Item x) = refl
-raw_item text Step.End = part_is text 0 0 (omega arith) (omega arith)
 
 tiles_le : {a b : ℕ} (xs : List ScanItem) → Tiles a xs b → a ≤ b
 tiles_le [] e = omega arith
@@ -132,12 +83,12 @@ within text at before x xs e =
     let l = tiles_le xs t.2 in
     (omega (arith, t.1), omega (arith, t.0, t.1, valid_up_to_le (drop at text), length-drop at text))
 
-pub raw_bytes : (text : List ℕ) (p : Place) (x : ScanItem) (i : Item) (is : List Item) → answer_at text p ≡ Step.Item x
+pub raw_bytes : (text : List ℕ) (p : Place) (x : ScanItem) (i : Item) (is : List Item) → answer_at text p ≡ Some x
     → items (chars (drop p.offset text)) ≡ i ∷ is → part text x.start x.end ≡ encode_all i.chars
 unfolding scan_at first_of
 raw_bytes text p x i is e f = go (items_at text p) refl e
   where
-    go : (xs : List ScanItem) → items_at text p ≡ xs → first_of xs ≡ Step.Item x → part text x.start x.end ≡ encode_all i.chars
+    go : (xs : List ScanItem) → items_at text p ≡ xs → first_of xs ≡ Some x → part text x.start x.end ≡ encode_all i.chars
     go [] a b = cc
     go (y ∷ ys) a b =
         let g : y ≡ x = cc in

@@ -1,3 +1,2 @@
 -- Definitions for the scanner that borrows a text (document 01, "Item"), and statements about it.
 pub mod Scanner
-pub mod Helpers

@@ -3,18 +3,16 @@
 -- statement is NextGivesItems: successive calls answer the items of the text, and after them the end. The definitions that only the
 -- contracts of private functions use are in specs/Helpers.antt.
 use Rattle.std.specs.Prelude.{◌≡◌, cond, ◌&&◌, List, [], ◌∷◌, ◌++◌, ℕ, zero, suc, ◌-◌, leb, drop, length, take}
+use Rattle.std.specs.Prelude.{Ok, Err, Some, None, Result, Option, ⊤}
+use Rattle.base.specs.declared.Refusal.{Refusal}
 use Rattle.std.specs.Borrow.{Bor}
 use Rattle.base.specs.Refusals.{checked}
-use Rattle.base.specs.declared.Check.{Check}
-use Rattle.base.specs.declared.Check.TheVariants.{Passed, Refused}
 use Rattle.utf8.specs.Rfc3629.{WellFormed, chars, encode_all}
 use Rattle.scanner.specs.Items.{Item, items}
 use Rattle.positions.specs.declared.TextCount.{TextCount}
 use Rattle.scanner.specs.Spans.{first_of, scan, scan_at, scan_from}
 use Rattle.scanner.specs.TextCheck.{text_refusal}
 use Rattle.scanner.specs.declared.ScanItem.{ScanItem}
-use Rattle.scanner.specs.declared.ScanStep.{ScanStep}
-use Rattle.scanner.specs.declared.ScanStep.TheVariants as Step
 use Rattle.text_scanner.specs.declared.NthItem.{NthItem}
 use Rattle.text_scanner.specs.declared.Scanned.{Scanned}
 use Rattle.text_scanner.specs.declared.Scanner.{Scanner}
@@ -22,12 +20,12 @@ use Rattle.text_scanner.specs.declared.Scanner.{Scanner}
 -- ---- making a scanner
 
 -- The first offset of a text's scanner: 0, or the end of a text that is refused, so that the scanner answers the end at once.
-abbrev pub start_of : Check → List ℕ → ℕ
-start_of Passed text = 0
-start_of (Refused r) text = length text
+abbrev pub start_of : Result ⊤ Refusal → List ℕ → ℕ
+start_of (Ok x) text = 0
+start_of (Err r) text = length text
 
 -- "Making one tests the text (1, 3)": the verdict on a text.
-abbrev pub verdict_of : List ℕ → Check
+abbrev pub verdict_of : List ℕ → Result ⊤ Refusal
 verdict_of text = checked (text_refusal text)
 
 -- "The scanner borrows the message text and remembers one byte offset"; "The scanner may remember the other two beside its byte offset":
@@ -58,16 +56,20 @@ abbrev count_at : Place → TextCount
 count_at p = record { chars = p.chars; units = p.units }
 
 -- The answer of a scanner, and all its items from a place on.
-abbrev pub answer_at : List ℕ → Place → ScanStep
+abbrev pub answer_at : List ℕ → Place → Option ScanItem
 answer_at text p = scan_at text p.offset (count_at p)
 
 abbrev pub items_at : List ℕ → Place → List ScanItem
 items_at text p = scan_from text p.offset (count_at p)
 
+-- The items that a scanner has left.
+abbrev pub items_left : Scanner → List ScanItem
+items_left s = items_at s.text.now (place_of s)
+
 -- The scanner's place after an answer: the item's end, or the same place if the answer is the end.
-abbrev pub place_after_step : ScanStep → Place → Place
-place_after_step (Step.Item x) p = record { offset = x.end; chars = x.char_end; units = x.unit_end }
-place_after_step Step.End p = p
+abbrev pub place_after_step : Option ScanItem → Place → Place
+place_after_step (Some x) p = record { offset = x.end; chars = x.char_end; units = x.unit_end }
+place_after_step None p = p
 
 -- ---- the bytes of an item
 
@@ -76,9 +78,9 @@ abbrev pub part : List ℕ → ℕ → ℕ → List ℕ
 part text start end = cond (leb start end && leb end (length text)) (take (end - start) (drop start text)) []
 
 -- The bytes of the item in an answer; none if the answer is the end.
-abbrev pub raw_of : List ℕ → ScanStep → List ℕ
-raw_of text (Step.Item x) = part text x.start x.end
-raw_of text Step.End = []
+abbrev pub raw_of : List ℕ → Option ScanItem → List ℕ
+raw_of text (Some x) = part text x.start x.end
+raw_of text None = []
 
 -- ---- successive calls
 
@@ -88,13 +90,13 @@ place_after text p zero = p
 place_after text p (suc n) = place_after text (place_after_step (answer_at text p) p) n
 
 -- The first place of a text's scanner.
-abbrev pub start_place : Check → List ℕ → Place
+abbrev pub start_place : Result ⊤ Refusal → List ℕ → Place
 start_place v text = record { offset = start_of v text; chars = 0; units = 0 }
 
 -- The items that the scanner of a text answers: the items of the text, or none if the text is refused.
-abbrev pub items_of : Check → List ℕ → List ScanItem
-items_of Passed text = scan text
-items_of (Refused r) text = []
+abbrev pub items_of : Result ⊤ Refusal → List ℕ → List ScanItem
+items_of (Ok x) text = scan text
+items_of (Err r) text = []
 
 -- The verdict on a text, and its n-th item, counted from 0, or the end.
 abbrev pub nth_item : List ℕ → ℕ → NthItem
@@ -115,7 +117,7 @@ ScanGivesItems = (text : List ℕ) → items_at text (start_place (verdict_of te
 unfoldable pub RawIsItemBytes : Type 0
 RawIsItemBytes =
     (text : List ℕ) (p : Place) (x : ScanItem) (i : Item) (is : List Item)
-    → answer_at text p ≡ Step.Item x → items (chars (drop p.offset text)) ≡ i ∷ is
+    → answer_at text p ≡ Some x → items (chars (drop p.offset text)) ≡ i ∷ is
     → part text x.start x.end ≡ encode_all i.chars
 
 -- The bytes of items, one item after the other.

@@ -1,11 +1,11 @@
 -- A text has at most as many items, and at most as many findings, as it has bytes. A finding wants at most as many decisions as it has
 -- bytes.
+use Rattle.std.specs.Prelude.{Some}
 use mathlib.Core.Path.{◌≡◌, ap, sym}
 use mathlib.Core.Logic.{◌⊎◌, inl, inr}
 use mathlib.Core.Bool.{Bool, true, false, cond}
 use mathlib.Core.List.Memᴰ
 use mathlib.Core.List.{List, [], ◌∷◌, ◌++◌, Memᴰ}
-use mathlib.Core.Option.{some}
 use Prim.Native.Nat.{ℕ, ◌+◌, ◌≤◌}
 use native.Mathlib.Omega.{arith}
 use lib.Dec.{eqb}
@@ -64,7 +64,7 @@ few-found test n (x ∷ xs) = go (test x) (few-found test (n + size width x.char
     go false h = omega arith
 
 -- An item that is found at an offset is one of the items.
-pub found-item : (test : Item → Bool) (o n : ℕ) (xs : List Item) (x : Item) → finding_at o (found test width n xs) ≡ some x → Memᴰ x xs
+pub found-item : (test : Item → Bool) (o n : ℕ) (xs : List Item) (x : Item) → finding_at o (found test width n xs) ≡ Some x → Memᴰ x xs
 unfolding found finding_at
 found-item test o n [] x e = let z : ◌≡◌ {A = ℕ} 0 1 = cc in absurd (omega arith)
 found-item test o n (y ∷ ys) x e = go (test y) (found-item test o (n + size width y.chars) ys x) e
@@ -72,11 +72,11 @@ found-item test o n (y ∷ ys) x e = go (test y) (found-item test o (n + size wi
     F : List Found
     F = found test width (n + size width y.chars) ys
 
-    there : (b : Bool) → (finding_at o F ≡ some x → Memᴰ x ys) → cond b (some y) (finding_at o F) ≡ some x → Memᴰ x (y ∷ ys)
+    there : (b : Bool) → (finding_at o F ≡ Some x → Memᴰ x ys) → cond b (Some y) (finding_at o F) ≡ Some x → Memᴰ x (y ∷ ys)
     there true h e = let z : y ≡ x = cc in Memᴰ.head (sym z)
     there false h e = Memᴰ.tail (h e)
 
-    go : (t : Bool) → (finding_at o F ≡ some x → Memᴰ x ys) → finding_at o (cond t (record { start = n; item = y } ∷ F) F) ≡ some x
+    go : (t : Bool) → (finding_at o F ≡ Some x → Memᴰ x ys) → finding_at o (cond t (record { start = n; item = y } ∷ F) F) ≡ Some x
         → Memᴰ x (y ∷ ys)
     go true h e = there (eqb n o) h e
     go false h e = Memᴰ.tail (h e)

@@ -1,18 +1,18 @@
 -- The values of the answers of a feed's calls are small, for any bytes.
+use Rattle.base.specs.declared.Refusal.{Refusal}
+use Rattle.base.specs.Answers.{answer_row}
+use Rattle.std.specs.Prelude.{Ok, Err, Result, Some, None}
 use mathlib.Core.Path.{◌≡◌, refl, subst}
 use mathlib.Core.Bool.{Bool, true, false, cond}
 use mathlib.Core.List.{List, [], ◌++◌}
-use mathlib.Core.Option.{none, some}
 use Prim.Native.Nat.{ℕ, ◌≤◌}
 use native.Mathlib.Omega.{arith}
 use lib.Dec.{leb}
 use lib.ListN.{length, length-append}
-use Rattle.base.specs.Answers.{write_row}
 use Rattle.base.specs.Output.{answer_of}
 use Rattle.base.specs.Refusals.{or_else, unwritten, written}
 use Rattle.base.specs.Words.{bytes_of}
 use Rattle.base.specs.declared.Refusal.TheVariants.{FeedEnded, OutputTooShort}
-use Rattle.base.specs.declared.WriteAnswer.TheVariants as Write
 use Rattle.base.proofs.Numbers.{length_bytes_of_lem}
 use Rattle.utf8.specs.Subparts.{unfinished}
 use Rattle.utf8.proofs.Texts.{valid_up_to_le}
@@ -21,11 +21,9 @@ use Rattle.policy.specs.PolicyBytes.{is_policy, policy_fault, policy_refusal}
 use Rattle.policy.proofs.Refusals.{fault_value}
 use Rattle.scanner.specs.declared.char_class.Class.TheVariants.{Other as other}
 use Rattle.formatter.specs.List.{count_numbers}
-use Rattle.feed.specs.Bytes.{feed_of, feed_row, leaves, out_of, refuses}
+use Rattle.feed.specs.Bytes.{feed_of, leaves, out_of, refuses}
 use Rattle.feed.specs.Calls.{Answer, Call, Feed, after, answer, refused, wrote}
 use Rattle.feed.specs.Calls as Feed
-use Rattle.feed.specs.declared.FeedAnswer.{FeedAnswer}
-use Rattle.feed.specs.declared.FeedAnswer.TheVariants.{Refused, Written}
 use Rattle.feed.proofs.Answered.{
   Answered,
   answered,
@@ -57,20 +55,20 @@ use Rattle.feeding.proofs.LaterPieces.{part-feed}
 use Rattle.feeding.proofs.Settling.{feed_unfinished, short_len}
 use Rattle.tilghorz.proofs.SmallAnswers.{most}
 
-pub begun-small : (policy feed : List ℕ) → (feed_row (begun_changing policy feed).answer).value ≤ most
-unfolding begun_changing feed_row policy_refusal
+pub begun-small : (policy feed : List ℕ) → (answer_row (begun_changing policy feed).answer).value ≤ most
+unfolding begun_changing answer_row policy_refusal
 begun-small policy feed = go (is_policy policy) (leb 528 (length feed))
   where
-    go : (a b : Bool) → (feed_row (or_else (cond a none (some (policy_fault policy))) (λ r. unwritten (Refused r) feed)
-        (cond b (written (Written 528) (new_changing policy) feed) (unwritten (Refused (OutputTooShort 528)) feed))).answer).value ≤ most
+    go : (a b : Bool) → (answer_row (or_else (cond a None (Some (policy_fault policy))) (λ r. unwritten (Err r) feed)
+        (cond b (written (Ok 528) (new_changing policy) feed) (unwritten (Err (OutputTooShort 528)) feed))).answer).value ≤ most
     go true true = omega arith
     go true false = omega arith
     go false b = omega (arith, fault_value policy)
 
 -- The answer of a feed whose rest is unfinished and whose length is within the limit.
 answer-small : (f : Feed) → f.len ≤ 16777216 → unfinished f.rest ≡ true → (bs : List ℕ) {c : Call} {a : Answer} → Answered f c a
-    → (feed_row (leaves bs (out_of c) (after f c a) a).answer).value ≤ most
-unfolding feed_row
+    → (answer_row (leaves bs (out_of c) (after f c a) a).answer).value ≤ most
+unfolding answer_row
 answer-small f l u bs (piece_9 h) = omega arith
 answer-small f l u bs (piece_1 h m) = omega arith
 answer-small f l u bs (piece_3 {b = b} h m n) =
@@ -98,42 +96,42 @@ module _ (bs : List ℕ) (c : Changes.Call) where
   unfolding changing_feed feed_of
   rest e = feed_unfinished (feed_part bs) (part-feed bs e)
 
-  fed : is_changing bs ≡ true → (d : Call) (g : Feed) → (feed_row (leaves_after bs c g (answer f d)).answer).value ≤ most
+  fed : is_changing bs ≡ true → (d : Call) (g : Feed) → (answer_row (leaves_after bs c g (answer f d)).answer).value ≤ most
   fed e d g =
-      subst (λ (x : FeedAnswer). (feed_row x).value ≤ most) (same_answer bs (out_of d) c (after f d (answer f d)) g (answer f d))
+      subst (λ (x : Result ℕ Refusal). (answer_row x).value ≤ most) (same_answer bs (out_of d) c (after f d (answer f d)) g (answer f d))
       (answer-small f (len e) (rest e) bs (answered f d))
 
-  changed : (policy : List ℕ) (t o : Bool) (g : Feed) → (feed_row (leaves_after bs c g
-      (cond t (refused FeedEnded) (or_else (cond o none (some (policy_fault policy))) refused (wrote [])))).answer).value ≤ most
-  unfolding feed_row
+  changed : (policy : List ℕ) (t o : Bool) (g : Feed) → (answer_row (leaves_after bs c g
+      (cond t (refused FeedEnded) (or_else (cond o None (Some (policy_fault policy))) refused (wrote [])))).answer).value ≤ most
+  unfolding answer_row
   changed policy true o g = omega arith
   changed policy false true g = omega arith
   changed policy false false g = omega (arith, fault_value policy)
 
-  on : is_changing bs ≡ true → (d : Changes.Call) (g : Feed) → (feed_row (leaves_after bs c g (answer_to f d)).answer).value ≤ most
+  on : is_changing bs ≡ true → (d : Changes.Call) (g : Feed) → (answer_row (leaves_after bs c g (answer_to f d)).answer).value ≤ most
   unfolding answer_to policy_refusal
   on e (Changes.piece b out) g = fed e (Feed.piece b out) g
   on e (Changes.end out) g = fed e (Feed.end out) g
   on e (Changes.change policy) g = changed policy f.ended (is_policy policy) g
 
   tested : (t : Bool) → is_changing bs ≡ t
-      → (feed_row (cond t (leaves_after bs c (after_call f c (answer_to f c)) (answer_to f c)) (refuses (Refused FeedEnded) bs
+      → (answer_row (cond t (leaves_after bs c (after_call f c (answer_to f c)) (answer_to f c)) (refuses (Err FeedEnded) bs
       (out_before c))).answer).value ≤ most
-  unfolding feed_row
+  unfolding answer_row
   tested true e = on e c (after_call f c (answer_to f c))
   tested false e = omega arith
 
-  pub called-small : (feed_row (called_on bs c).answer).value ≤ most
+  pub called-small : (answer_row (called_on bs c).answer).value ≤ most
   unfolding called_on
   called-small = tested (is_changing bs) refl
 
-pub totals-small : (feed out : List ℕ) → (write_row (answer_of (bytes_of (count_numbers (changing_totals feed))) out)).value ≤ most
-unfolding answer_of write_row
+pub totals-small : (feed out : List ℕ) → (answer_row (answer_of (bytes_of (count_numbers (changing_totals feed))) out)).value ≤ most
+unfolding answer_of answer_row
 totals-small feed out = go (leb (length B) (length out)) (length_bytes_of_lem (count_numbers (changing_totals feed)))
   where
     B : List ℕ
     B = bytes_of (count_numbers (changing_totals feed))
 
-    go : (b : Bool) → length B ≡ 64 → (write_row (cond b (Write.Written (length B)) (Write.TooShort (length B)))).value ≤ most
+    go : (b : Bool) → length B ≡ 64 → (answer_row (cond b (Ok (length B)) (Err (OutputTooShort (length B))))).value ≤ most
     go true h = omega arith
     go false h = omega arith

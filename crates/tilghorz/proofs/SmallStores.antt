@@ -1,4 +1,6 @@
 -- The values of the answers of a store's calls: that of a filing is small for any bytes, the others are small in a store begun new.
+use Rattle.base.specs.Answers.{answer_row, optional_row}
+use Rattle.std.specs.Prelude.{Ok, Err, Some, None, Result, Option}
 use mathlib.Core.Path.{◌≡◌, refl, ap, sym}
 use mathlib.Core.Bool.{Bool, true, false, cond, ◌&&◌}
 use mathlib.Core.List.{List}
@@ -12,25 +14,11 @@ use Rattle.base.specs.Refusals.{refusal_row, text_limit}
 use Rattle.base.specs.declared.Refusal.{Refusal}
 use Rattle.base.specs.declared.Refusal.TheVariants.{BadClientOrNumber}
 use Rattle.policy.specs.PolicyBytes.{numbers_of}
-use Rattle.formatter.specs.Format.{format, format_row}
-use Rattle.formatter.specs.declared.FormatAnswer.{FormatAnswer}
-use Rattle.formatter.specs.declared.FormatAnswer.TheVariants.{Changed, Refused, Unchanged}
-use Rattle.store.specs.Bytes.{
-  begin_call,
-  bytes_after,
-  file_answer_of,
-  file_call,
-  release_call,
-  store_bytes,
-  store_row,
-  used_call,
-  used_word,
-}
+use Rattle.formatter.specs.Format.{format}
+use Rattle.store.specs.Bytes.{begin_call, bytes_after, file_answer_of, file_call, release_call, store_bytes, used_call, used_word}
 use Rattle.store.specs.Calls.{Call, after_format, bad_release, changes, charge_of, is_refusal, release, release_answer, store_after}
 use Rattle.store.specs.Store.{Store, charge_at, clients, new_store}
 use Rattle.store.specs.Theorems.{EveryStoreInBytes, InBytes, StoreClaim}
-use Rattle.store.specs.declared.StoreAnswer.{StoreAnswer}
-use Rattle.store.specs.declared.StoreAnswer.TheVariants as Answered
 use Rattle.store.proofs.Beginning.{Fit, Whole, by_tests_lem}
 use Rattle.store.proofs.Claims.{every_store_in_bytes}
 use Rattle.store.proofs.Formats.{format_small as charge-small}
@@ -39,18 +27,19 @@ use Rattle.tilghorz.proofs.SmallAnswers.{format_small, most}
 -- ---- filing
 
 -- After tests 13 and 14, the value is formatting's own, or what is left, which is less than the charge.
-after_small : (fa : FormatAnswer) (bad fits : Bool) (l k : ℕ) → (format_row fa).value ≤ most → (is_refusal fa ≡ false → k ≤ 4 * text_limit)
-    → (fits ≡ false → l < k) → (format_row (after_format bad fits l fa)).value ≤ most
-unfolding format_row
-after_small Unchanged true fits l k h s f = omega arith
-after_small Unchanged false true l k h s f = h
-after_small Unchanged false false l k h s f = omega (arith, s refl, f refl)
-after_small (Changed n) true fits l k h s f = omega arith
-after_small (Changed n) false true l k h s f = h
-after_small (Changed n) false false l k h s f = omega (arith, s refl, f refl)
-after_small (Refused r) bad fits l k h s f = h
+after_small : (fa : Result (Option ℕ) Refusal) (bad fits : Bool) (l k : ℕ) → (optional_row fa).value ≤ most
+    → (is_refusal fa ≡ false → k ≤ 4 * text_limit)
+    → (fits ≡ false → l < k) → (optional_row (after_format bad fits l fa)).value ≤ most
+unfolding optional_row
+after_small (Ok None) true fits l k h s f = omega arith
+after_small (Ok None) false true l k h s f = h
+after_small (Ok None) false false l k h s f = omega (arith, s refl, f refl)
+after_small (Ok (Some n)) true fits l k h s f = omega arith
+after_small (Ok (Some n)) false true l k h s f = h
+after_small (Ok (Some n)) false false l k h s f = omega (arith, s refl, f refl)
+after_small (Err r) bad fits l k h s f = h
 
-pub file_small : (bs text policy : List ℕ) (c n : ℕ) (out : List ℕ) → (format_row (file_call bs text policy c n out).answer).value ≤ most
+pub file_small : (bs text policy : List ℕ) (c n : ℕ) (out : List ℕ) → (optional_row (file_call bs text policy c n out).answer).value ≤ most
 unfolding file_call file_answer_of
 file_small bs text policy c n out =
     after_small (format text policy out).answer _ _ _ (charge_of text policy) (format_small text policy out)
@@ -58,17 +47,17 @@ file_small bs text policy c n out =
 
 -- ---- the other calls
 
-pub begin_small : (C : ℕ) (rb st : List ℕ) → C < 2 ^ 56 → (store_row (begin_call C rb st).answer).value < 2 ^ 56
-unfolding begin_call store_row
+pub begin_small : (C : ℕ) (rb st : List ℕ) → C < 2 ^ 56 → (answer_row (begin_call C rb st).answer).value < 2 ^ 56
+unfolding begin_call answer_row
 begin_small C rb st h = go (leb store_bytes (length st)) (Whole C rb st) (Fit C rb st)
   where
-    go : (a w f : Bool) → (store_row (by_tests_lem C rb st a w f).answer).value < 2 ^ 56
+    go : (a w f : Bool) → (answer_row (by_tests_lem C rb st a w f).answer).value < 2 ^ 56
     go false w f = omega arith
     go true false f = omega arith
     go true true false = h
     go true true true = omega arith
 
-module _ (C : ℕ) (rb st : List ℕ) (w : C < 2 ^ 64) (e : (begin_call C rb st).answer ≡ Answered.Done store_bytes) (xs : List Call) where
+module _ (C : ℕ) (rb st : List ℕ) (w : C < 2 ^ 64) (e : (begin_call C rb st).answer ≡ Ok store_bytes) (xs : List Call) where
   abbrev B : List ℕ
   B = bytes_after (take store_bytes (begin_call C rb st).buffer) xs
 
@@ -84,33 +73,37 @@ module _ (C : ℕ) (rb st : List ℕ) (w : C < 2 ^ 64) (e : (begin_call C rb st)
   unfolding EveryStoreInBytes
   claim = (every_store_in_bytes C rb st w e xs).1
 
-  pub used-small : (c : ℕ) → (store_row (used_call B c)).value < 2 ^ 56
-  unfolding store_row used_call
+  pub used-small : (c : ℕ) → (answer_row (used_call B c)).value < 2 ^ 56
+  unfolding answer_row used_call
   used-small c = go (ltb c clients) refl
     where
-      go : (t : Bool) → ltb c clients ≡ t → (store_row (used_call B c)).value < 2 ^ 56
-      go true l = omega (arith, ap (λ (a : StoreAnswer). (store_row a).value) (in_bytes.uses c (ltb-true c clients l)), claim.small_use c)
+      go : (t : Bool) → ltb c clients ≡ t → (answer_row (used_call B c)).value < 2 ^ 56
+      go true l = omega (
+        arith,
+        ap (λ (a : Result ℕ Refusal). (answer_row a).value) (in_bytes.uses c (ltb-true c clients l)),
+        claim.small_use c,
+      )
       go false l = omega (arith, no-client (eqb (length B) store_bytes))
         where
           no-client : (t : Bool)
-              → (store_row (cond (t && ltb c clients) (Answered.Done (word_at (used_word c) B)) (Answered.Refused BadClientOrNumber))).value
+              → (answer_row (cond (t && ltb c clients) (Ok (word_at (used_word c) B)) (Err BadClientOrNumber))).value
               ≡ 0
           no-client true =
-              ap (λ (u : Bool). (store_row (cond u (Answered.Done (word_at (used_word c) B)) (Answered.Refused BadClientOrNumber))).value) l
+              ap (λ (u : Bool). (answer_row (cond u (Ok (word_at (used_word c) B)) (Err BadClientOrNumber))).value) l
           no-client false = refl
 
-  pub release_small : (c n : ℕ) → (store_row (release_call B c n).answer).value < 2 ^ 56
-  unfolding store_row release_answer
-  release_small c n = omega (arith, ap (λ (a : StoreAnswer). (store_row a).value) same, go (release_answer s c n) refl)
+  pub release_small : (c n : ℕ) → (answer_row (release_call B c n).answer).value < 2 ^ 56
+  unfolding answer_row release_answer
+  release_small c n = omega (arith, ap (λ (a : Result ℕ Refusal). (answer_row a).value) same, go (release_answer s c n) refl)
     where
       same : (release_call B c n).answer ≡ release_answer s c n
       same = let q = in_bytes.answers (release c n) in cc
 
       refused-value : (t : Bool) (k : ℕ) (r : Refusal)
-          → cond t (Answered.Refused BadClientOrNumber) (Answered.Done k) ≡ Answered.Refused r → (refusal_row r).value ≡ 0
+          → cond t (Err BadClientOrNumber) (Ok k) ≡ Err r → (refusal_row r).value ≡ 0
       refused-value true k r q = let z : BadClientOrNumber ≡ r = cc in ap (λ (x : Refusal). (refusal_row x).value) (sym z)
       refused-value false k r q = let z : ◌≡◌ {A = ℕ} 0 1 = cc in absurd (omega arith)
 
-      go : (a : StoreAnswer) → release_answer s c n ≡ a → (store_row a).value < 2 ^ 56
-      go (Answered.Done k) q = omega (arith, (claim.releases c n k q).bytes, claim.small_use c)
-      go (Answered.Refused r) q = omega (arith, refused-value (bad_release s c n) (charge_at c n s.filed) r q)
+      go : (a : Result ℕ Refusal) → release_answer s c n ≡ a → (answer_row a).value < 2 ^ 56
+      go (Ok k) q = omega (arith, (claim.releases c n k q).bytes, claim.small_use c)
+      go (Err r) q = omega (arith, refused-value (bad_release s c n) (charge_at c n s.filed) r q)

@@ -1,32 +1,14 @@
 // Answers as words of 64 bits. Each function gives `word` (specs/AnswerWord.antt) of the row of its answer.
 ghost use Rattle.std.specs.Prelude.{◌≡◌, ◌≤◌};
 ghost use Rattle.base.specs.Refusals.{refusal_row};
-ghost use Rattle.analysis.specs.Decisions.{mend_row};
-ghost use Rattle.base.specs.Answers.{list_row, two_values, write_row};
-ghost use Rattle.feed.specs.Bytes.{feed_row};
-ghost use Rattle.policy_migration.specs.Carry.{carry_row};
-ghost use Rattle.policy_sheet.specs.Calls.{sheet_row};
+ghost use Rattle.base.specs.Answers.{two_values, answer_row, found_row, optional_row};
 ghost use Rattle.findings_near.specs.Around.{around_row};
-ghost use Rattle.findings_near.specs.Nearest.{nearest_row};
-ghost use Rattle.cutting.specs.Cut.{cut_row};
-ghost use Rattle.formatter.specs.Format.{format_row};
 ghost use Rattle.repair.specs.Repair.{repair_row};
-ghost use Rattle.store.specs.Bytes.{store_row};
 ghost use Rattle.tilghorz.specs.AnswerWord.{capped_row, word};
-ghost use Rattle.emoji.specs.Rows.{entry_row};
 
-use analysis::types::MendAnswer;
-use base::refusals::{refusal_number, refusal_value};
-use base::{ListAnswer, Refusal, WriteAnswer};
-use cutting::Cut;
-use emoji::VariationEntry;
-use feed::FeedAnswer;
-use findings_near::{AroundAnswer, NearestAnswer};
-use formatter::FormatAnswer;
-use policy_migration::CarryAnswer;
-use policy_sheet::SheetAnswer;
-use repair::RepairAnswer;
-use store::StoreAnswer;
+use base::Refusal;
+use findings_near::ListedAround;
+use repair::Repaired;
 
 // One more than the largest value of a word: values have 56 bits.
 const VALUES: u64 = 0x100_0000_0000_0000;
@@ -59,118 +41,61 @@ fn word_of_two(first: usize, second: usize) -> u64
 fn refusal_word(refusal: Refusal) -> u64
     ensures { result ≡ word (refusal_row refusal) }
 {
-    word_of(refusal_number(refusal), refusal_value(refusal))
+    word_of(refusal.number(), refusal.value().unwrap_or(0))
 }
 
-// The word of formatting's answer.
-pub fn format_word(answer: FormatAnswer) -> u64
-    ensures { result ≡ word (format_row answer) }
+// The word of a call that returns a number.
+#[tactic(auto, unfolding(base::specs::Answers::answer_row))]
+pub fn answer_word(answer: Result<usize, Refusal>) -> u64
+    ensures { result ≡ word (answer_row answer) }
 {
     match answer {
-        FormatAnswer::Unchanged => word_of(NOTHING, 0),
-        FormatAnswer::Changed { len } => word_of(0, len),
-        FormatAnswer::Refused(refusal) => refusal_word(refusal),
+        Ok(n) => word_of(0, n),
+        Err(refusal) => refusal_word(refusal),
     }
 }
 
-// The word of a listing's answer.
-pub fn list_word(answer: ListAnswer) -> u64
-    ensures { result ≡ word (list_row answer) }
+// The word of a call that may have nothing to do or to return.
+#[tactic(auto, unfolding(base::specs::Answers::optional_row))]
+pub fn optional_word(answer: Result<Option<usize>, Refusal>) -> u64
+    ensures { result ≡ word (optional_row answer) }
 {
     match answer {
-        ListAnswer::Listed { findings } => word_of(0, findings),
-        ListAnswer::Refused(refusal) => refusal_word(refusal),
+        Ok(found) => found_word(found),
+        Err(refusal) => refusal_word(refusal),
     }
 }
 
-// The word of mending's answer.
-pub fn mend_word(answer: MendAnswer) -> u64
-    ensures { result ≡ word (mend_row answer) }
+// The word of a call that finds a number, or nothing.
+#[tactic(auto, unfolding(base::specs::Answers::found_row))]
+pub fn found_word(found: Option<usize>) -> u64
+    ensures { result ≡ word (found_row found) }
 {
-    match answer {
-        MendAnswer::Mended { len } => word_of(0, len),
-        MendAnswer::Refused(refusal) => refusal_word(refusal),
-    }
-}
-
-// The word of the answer to writing a result.
-pub fn write_word(answer: WriteAnswer) -> u64
-    ensures { result ≡ word (write_row answer) }
-{
-    match answer {
-        WriteAnswer::Written { len } => word_of(0, len),
-        WriteAnswer::TooShort { wanted } => refusal_word(Refusal::OutputTooShort { wanted }),
-    }
-}
-
-// The word of a variation entry.
-pub fn entry_word(entry: VariationEntry) -> u64
-    ensures { result ≡ word (entry_row entry) }
-{
-    match entry {
-        VariationEntry::Char(ch) => word_of(0, ch as usize),
-        VariationEntry::NoEntry => word_of(NOTHING, 0),
+    match found {
+        Some(n) => word_of(0, n),
+        None => word_of(NOTHING, 0),
     }
 }
 
 // The word of the answer of `repair`.
-pub fn repair_word(answer: RepairAnswer) -> u64
+#[tactic(auto, unfolding(repair::specs::Repair::repair_row))]
+pub fn repair_word(answer: Result<Repaired, Refusal>) -> u64
     ensures { result ≡ word (repair_row answer) }
 {
     match answer {
-        RepairAnswer::Repaired { len, replaced } => word_of_two(len, replaced),
-        RepairAnswer::Refused(refusal) => refusal_word(refusal),
-    }
-}
-
-// The word of the answer of a feed's call.
-pub fn feed_word(answer: FeedAnswer) -> u64
-    ensures { result ≡ word (feed_row answer) }
-{
-    match answer {
-        FeedAnswer::Written { len } => word_of(0, len),
-        FeedAnswer::Refused(refusal) => refusal_word(refusal),
-    }
-}
-
-// The word of the answer to reading or writing a policy sheet.
-pub fn sheet_word(answer: SheetAnswer) -> u64
-    ensures { result ≡ word (sheet_row answer) }
-{
-    match answer {
-        SheetAnswer::Written { len } => word_of(0, len),
-        SheetAnswer::Refused(refusal) => refusal_word(refusal),
-    }
-}
-
-// The word of the answer to carrying a policy over.
-pub fn carry_word(answer: CarryAnswer) -> u64
-    ensures { result ≡ word (carry_row answer) }
-{
-    match answer {
-        CarryAnswer::Written { len } => word_of(0, len),
-        CarryAnswer::Refused(refusal) => refusal_word(refusal),
+        Ok(Repaired { len, replaced }) => word_of_two(len, replaced),
+        Err(refusal) => refusal_word(refusal),
     }
 }
 
 // The word of the answer around a stretch.
-pub fn around_word(answer: AroundAnswer) -> u64
+#[tactic(auto, unfolding(findings_near::specs::Around::around_row))]
+pub fn around_word(answer: Result<ListedAround, Refusal>) -> u64
     ensures { result ≡ word (around_row answer) }
 {
     match answer {
-        AroundAnswer::Listed { inside, sharing } => word_of_two(inside, sharing),
-        AroundAnswer::Refused(refusal) => refusal_word(refusal),
-    }
-}
-
-// The word of the answer to the nearest finding.
-pub fn nearest_word(answer: NearestAnswer) -> u64
-    ensures { result ≡ word (nearest_row answer) }
-{
-    match answer {
-        NearestAnswer::Written => word_of(0, 1),
-        NearestAnswer::NoFinding => word_of(NOTHING, 0),
-        NearestAnswer::Refused(refusal) => refusal_word(refusal),
+        Ok(ListedAround { inside, sharing }) => word_of_two(inside, sharing),
+        Err(refusal) => refusal_word(refusal),
     }
 }
 
@@ -186,24 +111,12 @@ fn capped_word(number: u64, value: usize) -> u64
 }
 
 // The word of the answer of a store's call.
-pub fn store_word(answer: StoreAnswer) -> u64
-    ensures { result ≡ word (capped_row (store_row answer)) }
+#[tactic(auto, unfolding(base::specs::Answers::answer_row))]
+pub fn store_word(answer: Result<usize, Refusal>) -> u64
+    ensures { result ≡ word (capped_row (answer_row answer)) }
 {
     match answer {
-        StoreAnswer::Done { bytes } => capped_word(0, bytes),
-        StoreAnswer::Refused(refusal) => capped_word(
-            refusal_number(refusal),
-            refusal_value(refusal),
-        ),
-    }
-}
-
-// The word of a cut.
-pub fn cut_word(answer: Cut) -> u64
-    ensures { result ≡ word (cut_row answer) }
-{
-    match answer {
-        Cut::At(at) => word_of(0, at),
-        Cut::Nowhere => word_of(NOTHING, 0),
+        Ok(bytes) => capped_word(0, bytes),
+        Err(refusal) => capped_word(refusal.number(), refusal.value().unwrap_or(0)),
     }
 }

@@ -7,33 +7,29 @@
 ghost use Rattle.std.specs.Prelude.{◌≡◌};
 ghost use Rattle.base.specs.Output.{answer_of, buffer_of};
 ghost use Rattle.base.specs.Words.{bytes_of};
-ghost use Rattle.base.specs.Answers.{done, list_row, write_row};
+ghost use Rattle.base.specs.Answers.{done, answer_row, found_row, optional_row};
 ghost use Rattle.emoji.specs.Unicode.{variation_entry};
 ghost use Rattle.emoji.specs.UnicodeData.{unicode_version};
-ghost use Rattle.emoji.specs.Rows.{entry_row};
 ghost use Rattle.policy.specs.DefaultPolicy.{default_policy};
 ghost use Rattle.policy.specs.PolicyBytes.{policy_bytes};
 ghost use Rattle.repair.specs.Repair.{repair, repair_row};
-ghost use Rattle.policy_sheet.specs.Calls.{read_call, sheet_row, write_call};
-ghost use Rattle.policy_migration.specs.Carry.{carry_call, carry_row};
-ghost use Rattle.analysis.specs.Decisions.{mend_row};
+ghost use Rattle.policy_sheet.specs.Calls.{read_call, write_call};
+ghost use Rattle.policy_migration.specs.Carry.{carry_call};
 ghost use Rattle.formatter.specs.Format.{format};
 ghost use Rattle.formatter.specs.List.{count_numbers, list_bytes, list_items};
 ghost use Rattle.formatter.specs.Mend.{mend};
-ghost use Rattle.formatter.specs.Format.{format_row};
-ghost use Rattle.cutting.specs.Cut.{cut_before, cut_row};
-ghost use Rattle.store.specs.Bytes.{begin_call, file_call, release_call, store_row, used_call};
-ghost use Rattle.feed.specs.Bytes.{feed_row};
+ghost use Rattle.cutting.specs.Cut.{cut_before};
+ghost use Rattle.store.specs.Bytes.{begin_call, file_call, release_call, used_call};
 ghost use Rattle.policy_change.specs.Bytes.{begun_changing, called_on, changing_totals};
 ghost use Rattle.policy_change.specs.Calls as Calls;
 ghost use Rattle.membership_flips.specs.Flips.{list_tips};
 ghost use Rattle.findings_near.specs.Around.{around_row, list_around};
-ghost use Rattle.findings_near.specs.Nearest.{give_nearest, nearest_row};
+ghost use Rattle.findings_near.specs.Nearest.{give_nearest};
 ghost use Rattle.tilghorz.specs.AnswerWord.{capped_row, word};
 
 #[unsafe(no_mangle)]
 pub extern "C" fn tilghorz_format(text: &[u8], policy: &[u8], out: &mut [u8]) -> u64
-    ensures word { result ≡ word (format_row (format text.now policy.now out.old).answer) }
+    ensures word { result ≡ word (optional_row (format text.now policy.now out.old).answer) }
     ensures bytes { out.new ≡ (format text.now policy.now out.old).buffer }
 {
     tilghorz::tilghorz_format(text, policy, out)
@@ -41,7 +37,7 @@ pub extern "C" fn tilghorz_format(text: &[u8], policy: &[u8], out: &mut [u8]) ->
 
 #[unsafe(no_mangle)]
 pub extern "C" fn tilghorz_list(text: &[u8], policy: &[u8], table: &mut [u8]) -> u64
-    ensures word { result ≡ word (list_row (list_bytes text.now policy.now table.old).answer) }
+    ensures word { result ≡ word (answer_row (list_bytes text.now policy.now table.old).answer) }
     ensures bytes { table.new ≡ (list_bytes text.now policy.now table.old).buffer }
 {
     tilghorz::tilghorz_list(text, policy, table)
@@ -55,7 +51,7 @@ pub extern "C" fn tilghorz_mend(
     decisions: &[u8],
     out: &mut [u8],
 ) -> u64
-    ensures word { result ≡ word (mend_row
+    ensures word { result ≡ word (answer_row
         (mend text.now policy.now offset decisions.now out.old).answer) }
     ensures bytes { out.new ≡ (mend text.now policy.now offset decisions.now
         out.old).buffer }
@@ -65,7 +61,7 @@ pub extern "C" fn tilghorz_mend(
 
 #[unsafe(no_mangle)]
 pub extern "C" fn tilghorz_scan(text: &[u8], table: &mut [u8]) -> u64
-    ensures word { result ≡ word (list_row (list_items text.now table.old).answer) }
+    ensures word { result ≡ word (answer_row (list_items text.now table.old).answer) }
     ensures bytes { table.new ≡ (list_items text.now table.old).buffer }
 {
     tilghorz::tilghorz_scan(text, table)
@@ -100,7 +96,7 @@ pub extern "C" fn tilghorz_around(
 
 #[unsafe(no_mangle)]
 pub extern "C" fn tilghorz_nearest(text: &[u8], policy: &[u8], offset: u64, row: &mut [u8]) -> u64
-    ensures word { result ≡ word (nearest_row
+    ensures word { result ≡ word (optional_row
         (give_nearest text.now policy.now offset row.old).answer) }
     ensures bytes { row.new ≡ (give_nearest text.now policy.now offset row.old).buffer }
 {
@@ -109,14 +105,14 @@ pub extern "C" fn tilghorz_nearest(text: &[u8], policy: &[u8], offset: u64, row:
 
 #[unsafe(no_mangle)]
 pub extern "C" fn tilghorz_cut(bytes: &[u8], offset: u64) -> u64
-    ensures { result ≡ word (cut_row (cut_before bytes.now offset)) }
+    ensures { result ≡ word (found_row (cut_before bytes.now offset)) }
 {
     tilghorz::tilghorz_cut(bytes, offset)
 }
 
 #[unsafe(no_mangle)]
 pub extern "C" fn tilghorz_feed_begin(policy: &[u8], feed: &mut [u8]) -> u64
-    ensures word { result ≡ word (feed_row (begun_changing policy.now feed.old).answer) }
+    ensures word { result ≡ word (answer_row (begun_changing policy.now feed.old).answer) }
     ensures bytes { feed.new ≡ (begun_changing policy.now feed.old).buffer }
 {
     tilghorz::tilghorz_feed_begin(policy, feed)
@@ -124,7 +120,7 @@ pub extern "C" fn tilghorz_feed_begin(policy: &[u8], feed: &mut [u8]) -> u64
 
 #[unsafe(no_mangle)]
 pub extern "C" fn tilghorz_feed_piece(feed: &mut [u8], piece: &[u8], out: &mut [u8]) -> u64
-    ensures word { result ≡ word (feed_row
+    ensures word { result ≡ word (answer_row
         (called_on feed.old (Calls.piece piece.now out.old)).answer) }
     ensures state { feed.new ≡ (called_on feed.old (Calls.piece piece.now out.old)).feed }
     ensures bytes { out.new ≡ (called_on feed.old (Calls.piece piece.now out.old)).out }
@@ -134,7 +130,7 @@ pub extern "C" fn tilghorz_feed_piece(feed: &mut [u8], piece: &[u8], out: &mut [
 
 #[unsafe(no_mangle)]
 pub extern "C" fn tilghorz_feed_end(feed: &mut [u8], out: &mut [u8]) -> u64
-    ensures word { result ≡ word (feed_row (called_on feed.old (Calls.end out.old)).answer) }
+    ensures word { result ≡ word (answer_row (called_on feed.old (Calls.end out.old)).answer) }
     ensures state { feed.new ≡ (called_on feed.old (Calls.end out.old)).feed }
     ensures bytes { out.new ≡ (called_on feed.old (Calls.end out.old)).out }
 {
@@ -143,7 +139,7 @@ pub extern "C" fn tilghorz_feed_end(feed: &mut [u8], out: &mut [u8]) -> u64
 
 #[unsafe(no_mangle)]
 pub extern "C" fn tilghorz_feed_policy(feed: &mut [u8], policy: &[u8]) -> u64
-    ensures word { result ≡ word (feed_row (called_on feed.old (Calls.change policy.now)).answer) }
+    ensures word { result ≡ word (answer_row (called_on feed.old (Calls.change policy.now)).answer) }
     ensures state { feed.new ≡ (called_on feed.old (Calls.change policy.now)).feed }
 {
     tilghorz::tilghorz_feed_policy(feed, policy)
@@ -151,7 +147,7 @@ pub extern "C" fn tilghorz_feed_policy(feed: &mut [u8], policy: &[u8]) -> u64
 
 #[unsafe(no_mangle)]
 pub extern "C" fn tilghorz_feed_totals(feed: &[u8], totals: &mut [u8]) -> u64
-    ensures word { result ≡ word (write_row
+    ensures word { result ≡ word (answer_row
         (answer_of (bytes_of (count_numbers (changing_totals feed.now))) totals.old)) }
     ensures bytes { totals.new
         ≡ buffer_of (bytes_of (count_numbers (changing_totals feed.now))) totals.old }
@@ -161,7 +157,7 @@ pub extern "C" fn tilghorz_feed_totals(feed: &[u8], totals: &mut [u8]) -> u64
 
 #[unsafe(no_mangle)]
 pub extern "C" fn tilghorz_read_sheet(sheet: &[u8], out: &mut [u8]) -> u64
-    ensures word { result ≡ word (sheet_row (read_call sheet.now out.old).answer) }
+    ensures word { result ≡ word (answer_row (read_call sheet.now out.old).answer) }
     ensures bytes { out.new ≡ (read_call sheet.now out.old).buffer }
 {
     tilghorz::tilghorz_read_sheet(sheet, out)
@@ -169,7 +165,7 @@ pub extern "C" fn tilghorz_read_sheet(sheet: &[u8], out: &mut [u8]) -> u64
 
 #[unsafe(no_mangle)]
 pub extern "C" fn tilghorz_write_sheet(policy: &[u8], out: &mut [u8]) -> u64
-    ensures word { result ≡ word (sheet_row (write_call policy.now out.old).answer) }
+    ensures word { result ≡ word (answer_row (write_call policy.now out.old).answer) }
     ensures bytes { out.new ≡ (write_call policy.now out.old).buffer }
 {
     tilghorz::tilghorz_write_sheet(policy, out)
@@ -177,7 +173,7 @@ pub extern "C" fn tilghorz_write_sheet(policy: &[u8], out: &mut [u8]) -> u64
 
 #[unsafe(no_mangle)]
 pub extern "C" fn tilghorz_carry_policy(entries: &[u8], policy: &[u8], out: &mut [u8]) -> u64
-    ensures word { result ≡ word (carry_row (carry_call entries.now policy.now out.old).answer) }
+    ensures word { result ≡ word (answer_row (carry_call entries.now policy.now out.old).answer) }
     ensures bytes { out.new ≡ (carry_call entries.now policy.now out.old).buffer }
 {
     tilghorz::tilghorz_carry_policy(entries, policy, out)
@@ -185,7 +181,7 @@ pub extern "C" fn tilghorz_carry_policy(entries: &[u8], policy: &[u8], out: &mut
 
 #[unsafe(no_mangle)]
 pub extern "C" fn tilghorz_tips(text: &[u8], policy: &[u8], table: &mut [u8]) -> u64
-    ensures word { result ≡ word (list_row (list_tips text.now policy.now table.old).answer) }
+    ensures word { result ≡ word (answer_row (list_tips text.now policy.now table.old).answer) }
     ensures bytes { table.new ≡ (list_tips text.now policy.now table.old).buffer }
 {
     tilghorz::tilghorz_tips(text, policy, table)
@@ -193,7 +189,7 @@ pub extern "C" fn tilghorz_tips(text: &[u8], policy: &[u8], table: &mut [u8]) ->
 
 #[unsafe(no_mangle)]
 pub extern "C" fn tilghorz_store_begin(capacity: u64, reserves: &[u8], store: &mut [u8]) -> u64
-    ensures word { result ≡ word (capped_row (store_row (begin_call capacity reserves.now store.old).answer)) }
+    ensures word { result ≡ word (capped_row (answer_row (begin_call capacity reserves.now store.old).answer)) }
     ensures state { store.new ≡ (begin_call capacity reserves.now store.old).buffer }
 {
     tilghorz::tilghorz_store_begin(capacity, reserves, store)
@@ -208,7 +204,7 @@ pub extern "C" fn tilghorz_store_file(
     number: u64,
     out: &mut [u8],
 ) -> u64
-    ensures word { result ≡ word (format_row
+    ensures word { result ≡ word (optional_row
         (file_call store.old text.now policy.now client number out.old).answer) }
     ensures state { store.new
         ≡ (file_call store.old text.now policy.now client number out.old).store }
@@ -220,7 +216,7 @@ pub extern "C" fn tilghorz_store_file(
 
 #[unsafe(no_mangle)]
 pub extern "C" fn tilghorz_store_release(store: &mut [u8], client: u64, number: u64) -> u64
-    ensures word { result ≡ word (capped_row (store_row (release_call store.old client number).answer)) }
+    ensures word { result ≡ word (capped_row (answer_row (release_call store.old client number).answer)) }
     ensures state { store.new ≡ (release_call store.old client number).buffer }
 {
     tilghorz::tilghorz_store_release(store, client, number)
@@ -228,14 +224,14 @@ pub extern "C" fn tilghorz_store_release(store: &mut [u8], client: u64, number: 
 
 #[unsafe(no_mangle)]
 pub extern "C" fn tilghorz_store_used(store: &[u8], client: u64) -> u64
-    ensures { result ≡ word (capped_row (store_row (used_call store.now client))) }
+    ensures { result ≡ word (capped_row (answer_row (used_call store.now client))) }
 {
     tilghorz::tilghorz_store_used(store, client)
 }
 
 #[unsafe(no_mangle)]
 pub extern "C" fn tilghorz_default_policy(out: &mut [u8]) -> u64
-    ensures word { result ≡ word (write_row (answer_of (policy_bytes default_policy) out.old)) }
+    ensures word { result ≡ word (answer_row (answer_of (policy_bytes default_policy) out.old)) }
     ensures bytes { out.new ≡ buffer_of (policy_bytes default_policy) out.old }
 {
     tilghorz::tilghorz_default_policy(out)
@@ -243,7 +239,7 @@ pub extern "C" fn tilghorz_default_policy(out: &mut [u8]) -> u64
 
 #[unsafe(no_mangle)]
 pub extern "C" fn tilghorz_variation_entry(index: u64) -> u64
-    ensures { result ≡ word (entry_row (variation_entry index)) }
+    ensures { result ≡ word (found_row (variation_entry index)) }
 {
     tilghorz::tilghorz_variation_entry(index)
 }

@@ -1,7 +1,7 @@
 -- Scalar values from their bounds.
 use mathlib.Core.Path.{◌≡◌}
 use mathlib.Core.Logic.{◌⊎◌, inl, inr, ⊎_elim}
-use mathlib.Core.Bool.{true, false}
+use mathlib.Core.Bool.{true}
 use Prim.Native.Nat.{ℕ, ◌≤◌}
 use native.Mathlib.Omega.{arith}
 use borrow.Author.Tests.{le-leb, lt-leb}
@@ -15,15 +15,6 @@ is_scalar_low v h = simp (le-leb 0 v (omega arith), le-leb v 0xD7FF h)
 pub is_scalar-high : (v : ℕ) → 0xE000 ≤ v → v ≤ 0x10FFFF → is_scalar v ≡ true
 unfolding is_scalar
 is_scalar-high v l h = simp (le-leb 0 v (omega arith), lt-leb v 0xD7FF (omega arith), le-leb 0xE000 v l, le-leb v 0x10FFFF h)
-
-pub surrogate_not_scalar : (v : ℕ) → 0xD800 ≤ v → v ≤ 0xDFFF → is_scalar v ≡ false
-unfolding is_scalar
-surrogate_not_scalar v l h = simp (le-leb 0 v (omega arith), lt-leb v 0xD7FF (omega arith), lt-leb 0xE000 v (omega arith))
-
-pub above_not_scalar : (v : ℕ) → 0x110000 ≤ v → is_scalar v ≡ false
-unfolding is_scalar
-above_not_scalar v l =
-    simp (le-leb 0 v (omega arith), lt-leb v 0xD7FF (omega arith), le-leb 0xE000 v (omega arith), lt-leb v 0x10FFFF (omega arith))
 
 pub is_scalar-bounds : (v : ℕ) → is_scalar v ≡ true → (v ≤ 0xD7FF) ⊎ ((0xE000 ≤ v) × (v ≤ 0x10FFFF))
 unfolding is_scalar

@@ -1,77 +1,21 @@
--- The laws that the proofs of `second_fits` and `bad_width` use: the range of the second byte by the rows of Table 3-7, and the width by
--- three tests.
+-- The laws that the proof of `bad_width` uses: the width by three tests.
 use mathlib.Core.Path.{◌≡◌, refl, sym, ap, ap₂, ◌∙◌}
 use mathlib.Core.Logic.{⊎_elim}
-use mathlib.Core.Bool.{Bool, true, false, cond, ◌&&◌, ◌||◌, and-true, or-false, true≢false}
+use mathlib.Core.Bool.{Bool, true, false, cond, ◌&&◌, true≢false}
 use mathlib.Core.List.{List, [], ◌∷◌}
 use Prim.Native.Nat.{ℕ, ◌≤◌, ◌<◌}
 use native.Mathlib.Omega.{arith}
 use lib.ListN.{get_or, length}
 use Rattle.base.specs.Ranges.{within}
 use Rattle.utf8.specs.Rfc3629.{utf8_3, utf8_4, utf8_tail, begun_2, begun_3, subpart, subpart_of}
-use Rattle.base.proofs.Tests.{both_true, either_true, fails, within-above, within-below}
-use Rattle.utf8.proofs.FirstBytes.{four_F0, four_F1_F3, four_F4, not_3_above, three_E0, three_E1_EC, three_ED, three_EE_EF}
+use Rattle.base.proofs.Tests.{both_true, either_true, fails, within-below}
+use Rattle.utf8.proofs.FirstBytes.{not_3_above}
 use Rattle.utf8.proofs.Completions.{begun-by_4, four_tails, four_with}
 
 module _ (a b : ℕ) where
-  not_3_below : (c : ℕ) → a < 0xE0 → utf8_3 a b c ≡ false
-  unfolding utf8_3
-  not_3_below c h =
-      simp (
-        within-below 0xE0 0xE0 a h,
-        within-below 0xE1 0xEC a (omega arith),
-        within-below 0xED 0xED a (omega arith),
-        within-below 0xEE 0xEF a (omega arith),
-      )
-
-  not_4_below : (c d : ℕ) → a < 0xF0 → utf8_4 a b c d ≡ false
+  pub not_4_below : (c d : ℕ) → a < 0xF0 → utf8_4 a b c d ≡ false
   unfolding utf8_4
   not_4_below c d h = simp (within-below 0xF0 0xF0 a h, within-below 0xF1 0xF3 a (omega arith), within-below 0xF4 0xF4 a (omega arith))
-
-  not_4_above : (c d : ℕ) → 0xF4 < a → utf8_4 a b c d ≡ false
-  unfolding utf8_4
-  not_4_above c d h = simp (within-above 0xF0 0xF0 a (omega arith), within-above 0xF1 0xF3 a (omega arith), within-above 0xF4 0xF4 a h)
-
-  -- ---- two bytes, row by row
-
-  by_tests : {x y : Bool} → utf8_3 a b 0x80 ≡ x → utf8_4 a b 0x80 0x80 ≡ y → begun_2 a b ≡ (x || y)
-  unfolding begun_2
-  by_tests p q = ap₂ (λ (x y : Bool). x || y) p q
-
-  three : (t : Bool) → a < 0xF0 → utf8_3 a b 0x80 ≡ (t && true) → begun_2 a b ≡ t
-  three t h e = by_tests e (not_4_below 0x80 0x80 h) ∙ or-false (t && true) ∙ and-true t
-
-  four : (t : Bool) → 0xF0 ≤ a → utf8_4 a b 0x80 0x80 ≡ (t && true) → begun_2 a b ≡ t
-  four t h e = by_tests (not_3_above a b 0x80 h) e ∙ and-true t
-
-  pub begun-below : a < 0xE0 → begun_2 a b ≡ false
-  begun-below h = by_tests (not_3_below 0x80 h) (not_4_below 0x80 0x80 (omega arith))
-
-  pub begun_E0 : a ≡ 0xE0 → begun_2 a b ≡ within 0xA0 0xBF b
-  begun_E0 e = three (within 0xA0 0xBF b) (omega arith) (three_E0 a b 0x80 e)
-
-  pub begun_E1_EC : 0xE1 ≤ a → a ≤ 0xEC → begun_2 a b ≡ within 0x80 0xBF b
-  begun_E1_EC l h = three (within 0x80 0xBF b) (omega arith) (three_E1_EC a b 0x80 l h)
-
-  pub begun_ED : a ≡ 0xED → begun_2 a b ≡ within 0x80 0x9F b
-  begun_ED e = three (within 0x80 0x9F b) (omega arith) (three_ED a b 0x80 e)
-
-  pub begun_EE_EF : 0xEE ≤ a → a ≤ 0xEF → begun_2 a b ≡ within 0x80 0xBF b
-  begun_EE_EF l h = three (within 0x80 0xBF b) (omega arith) (three_EE_EF a b 0x80 l h)
-
-  pub begun_F0 : a ≡ 0xF0 → begun_2 a b ≡ within 0x90 0xBF b
-  begun_F0 e = four (within 0x90 0xBF b) (omega arith) (four_F0 a b 0x80 0x80 e)
-
-  pub begun_F1_F3 : 0xF1 ≤ a → a ≤ 0xF3 → begun_2 a b ≡ within 0x80 0xBF b
-  begun_F1_F3 l h = four (within 0x80 0xBF b) (omega arith) (four_F1_F3 a b 0x80 0x80 l h)
-
-  pub begun_F4 : a ≡ 0xF4 → begun_2 a b ≡ within 0x80 0x8F b
-  begun_F4 e = four (within 0x80 0x8F b) (omega arith) (four_F4 a b 0x80 0x80 e)
-
-  pub begun-above : 0xF4 < a → begun_2 a b ≡ false
-  begun-above h = by_tests (not_3_above a b 0x80 (omega arith)) (not_4_above 0x80 0x80 h)
-
-  -- ---- the width
 
   width_is : (c : ℕ) {x y : Bool} → begun_3 a b c ≡ x → begun_2 a b ≡ y → subpart a b c ≡ cond x 3 (cond y 2 1)
   unfolding subpart

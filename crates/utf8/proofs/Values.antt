@@ -1,12 +1,14 @@
 -- Laws for the proof of `decode`. They have bounds of the value of three and four bytes, where the table of RFC 3629, section 4, has
 -- ranges of the second byte.
 use mathlib.Core.Path.{◌≡◌, refl, sym, ap, ◌∙◌, subst}
-use mathlib.Core.Bool.{true}
+use mathlib.Core.Bool.{Bool, true, false, cond}
 use mathlib.Core.List.{List, [], ◌∷◌, ◌++◌}
 use Prim.Native.Nat.{ℕ, ◌+◌, ◌*◌, ◌≤◌, ◌<◌}
 use native.Mathlib.Omega.{arith}
 use lib.ListN.{get_or, length, drop}
-use Rattle.utf8.specs.Rfc3629.{value_2, value_3, value_4, read_four, read_char, packed, subpart, is_scalar, encode}
+use Rattle.utf8.proofs.SecondBytes.{not_4_below}
+use Rattle.utf8.proofs.FirstBytes.{not_1, not_2_above, not_3_above}
+use Rattle.utf8.specs.Rfc3629.{utf8_3, utf8_4, value_2, value_3, value_4, read_four, read_char, packed, subpart, is_scalar, encode}
 use Rattle.utf8.specs.declared.ReadChar.{ReadChar}
 use Rattle.utf8.specs.declared.ReadChar.TheVariants.{Char, IllFormed}
 use Rattle.base.proofs.Tests.{In}
@@ -127,3 +129,23 @@ module _ (s : List ℕ) (at : ℕ) (h : at < length s) where
   pub packed_at : {x y z t n : ℕ} → n ≡ packed (read_four x y z t) → x ≡ a → y ≡ b → z ≡ c → t ≡ d
       → n ≡ packed (read_char (drop at s))
   packed_at e p q r u = cc at_place
+
+-- ---- the rows of three and of four bytes
+
+row_packed : (t : Bool) (v w n : ℕ) → cond t (8 * v + w) 0 ≡ packed (cond t (Char v w) (IllFormed n))
+unfolding packed
+row_packed true v w n = refl
+row_packed false v w n = refl
+
+module _ (a b c d : ℕ) where
+  pub packed_3 : 0xE0 ≤ a → a ≤ 0xEF → cond (utf8_3 a b c) (8 * value_3 a b c + 3) 0 ≡ packed (read_four a b c d)
+  unfolding read_four
+  packed_3 l h =
+      simp (not_1 a (omega arith), not_2_above a b (omega arith), not_4_below a b c d (omega arith))
+      (row_packed (utf8_3 a b c) (value_3 a b c) 3 (subpart a b c))
+
+  pub packed_4 : 0xF0 ≤ a → cond (utf8_4 a b c d) (8 * value_4 a b c d + 4) 0 ≡ packed (read_four a b c d)
+  unfolding read_four
+  packed_4 l =
+      simp (not_1 a (omega arith), not_2_above a b (omega arith), not_3_above a b c (omega arith))
+      (row_packed (utf8_4 a b c d) (value_4 a b c d) 4 (subpart a b c))

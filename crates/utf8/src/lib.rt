@@ -3,37 +3,30 @@
 // `decode` its packed number, `bad_width` is `subpart_of`, and `is_scalar` is `is_scalar`.
 #![tactic(auto)]
 
-ghost use Rattle.std.specs.Prelude.{◌≡◌, ℕ, ◌+◌, ◌≤◌, length, drop, get_or};
+ghost use Rattle.std.specs.Prelude.{◌≡◌, cond, ◌+◌, ◌*◌, ◌≤◌, length, drop, get_or};
 ghost use Rattle.base.specs.Ranges.{within};
-ghost use Rattle.utf8.specs.Rfc3629.{begun_2, read_four, read_char, char_len, packed, subpart_of, is_scalar};
+ghost use Rattle.utf8.specs.Rfc3629.{begun_2, read_char, char_len, packed, subpart_of, is_scalar, utf8_3, utf8_4, value_3, value_4};
 
 // The result of reading at an offset of a text: a character, a bad place with the number of bytes of its maximal subpart, or the end.
-#[derive(Clone, Copy)]
+#[derive(Clone, Copy, Debug, PartialEq, Eq)]
 pub enum ReadChar {
     Char { value: u32, width: usize },
     IllFormed { width: usize },
     End,
 }
 
-// Converts a byte to a wider number.
-fn wide(b: u8) -> u32
-    ensures { result ≡ b }
-{
-    b as u32
-}
-
 // Decodes the character at an offset. The result is the packed number, 8 times the value plus the width, or 0 if no
-// character begins there. A number is returned in a register, and an enum through memory. The tests of this function
-// and of the next three stand in the row order of the Unicode Standard's Table 3-7, and each row has a comment. In
-// every row each byte after the first is a UTF8-tail, 80..BF, so this is tested once for all rows when the byte is
-// read. The rows E0, ED, F0 and F4 then test their narrower range of the second byte.
+// character begins there. A number is returned in a register, and an enum through memory: an `Option` of two numbers took
+// up to twice the time. The tests of this function and of the next three stand in the row order of the Unicode
+// Standard's Table 3-7. In every row each byte after the first is a UTF8-tail, 80..BF, so this is tested once for all
+// rows when the byte is read. The rows E0, ED, F0 and F4 then test their narrower range of the second byte.
 pub fn decode(s: &[u8], at: usize) -> u32
     ensures { result ≡ packed (read_char (drop at s.now)) }
 {
     if s.len() <= at {
         return 0;
     }
-    let a = wide(s[at]);
+    let a = u32::from(s[at]);
     // 00..7F
     if a <= 0x7F {
         return 8 * a + 1;
@@ -45,7 +38,7 @@ pub fn decode(s: &[u8], at: usize) -> u32
     if s.len() - at < 2 {
         return 0;
     }
-    let b = wide(s[at + 1]);
+    let b = u32::from(s[at + 1]);
     if b < 0x80 {
         return 0;
     }
@@ -69,7 +62,7 @@ fn decode_long(s: &[u8], at: usize, a: u32, b: u32) -> u32
     if s.len() - at < 3 {
         return 0;
     }
-    let c = wide(s[at + 2]);
+    let c = u32::from(s[at + 2]);
     if c < 0x80 {
         return 0;
     }
@@ -84,72 +77,43 @@ fn decode_long(s: &[u8], at: usize, a: u32, b: u32) -> u32
         return 0;
     }
     // F0; F1..F3; F4
-    pack_4(a, b, c, wide(s[at + 3]))
+    pack_4(a, b, c, u32::from(s[at + 3]))
 }
 
 // Returns the packed number of three bytes, by the rows of three bytes in Table 3-7. The second and third bytes are
 // UTF8-tails. The result is 0 if the second byte is not in its row's range.
+#[tactic(auto, unfolding(crate::specs::Rfc3629::utf8_3))]
 fn pack_3(a: u32, b: u32, c: u32) -> u32
     requires { (0xE0 ≤ a) × (a ≤ 0xEF) × (0x80 ≤ b) × (b ≤ 0xBF) × (0x80 ≤ c) × (c ≤ 0xBF) }
-    ensures { (d : ℕ) → result ≡ packed (read_four a b c d) }
+    ensures { result ≡ cond (utf8_3 a b c) (8 * value_3 a b c + 3) 0 }
 {
     let value = ((a - 0xE0) * 64 + (b - 0x80)) * 64 + (c - 0x80);
-    // E0, A0..BF, 80..BF
-    if a == 0xE0 {
-        if b < 0xA0 {
-            return 0;
-        }
-        return 8 * value + 3;
+    match (a, b) {
+        (0xE0, 0xA0..=0xBF)
+        | (0xE1..=0xEC, 0x80..=0xBF)
+        | (0xED, 0x80..=0x9F)
+        | (0xEE..=0xEF, 0x80..=0xBF) => 8 * value + 3,
+        _ => 0,
     }
-    // E1..EC, 80..BF, 80..BF
-    if a <= 0xEC {
-        return 8 * value + 3;
-    }
-    // ED, 80..9F, 80..BF
-    if a == 0xED {
-        if 0x9F < b {
-            return 0;
-        }
-        return 8 * value + 3;
-    }
-    // EE..EF, 80..BF, 80..BF
-    8 * value + 3
 }
 
 // Returns the packed number of four bytes, by the rows of four bytes in Table 3-7. The second and third bytes are
 // UTF8-tails. The result is 0 if the last byte is no UTF8-tail, if the second byte is not in its row's range, or if no
 // row begins with the first byte.
+#[tactic(auto, unfolding(crate::specs::Rfc3629::utf8_4))]
 fn pack_4(a: u32, b: u32, c: u32, d: u32) -> u32
     requires { (0xF0 ≤ a) × (a ≤ 0xFF) × (0x80 ≤ b) × (b ≤ 0xBF) × (0x80 ≤ c) × (c ≤ 0xBF) }
-    ensures { result ≡ packed (read_four a b c d) }
+    ensures { result ≡ cond (utf8_4 a b c d) (8 * value_4 a b c d + 4) 0 }
 {
-    if d < 0x80 {
-        return 0;
-    }
-    if 0xBF < d {
-        return 0;
-    }
-    let value = (((a - 0xF0) * 64 + (b - 0x80)) * 64 + (c - 0x80)) * 64 + (d - 0x80);
-    // F0, 90..BF, 80..BF, 80..BF
-    if a == 0xF0 {
-        if b < 0x90 {
-            return 0;
+    match (a, b, d) {
+        (0xF0, 0x90..=0xBF, 0x80..=0xBF)
+        | (0xF1..=0xF3, 0x80..=0xBF, 0x80..=0xBF)
+        | (0xF4, 0x80..=0x8F, 0x80..=0xBF) => {
+            let value = (((a - 0xF0) * 64 + (b - 0x80)) * 64 + (c - 0x80)) * 64 + (d - 0x80);
+            8 * value + 4
         }
-        return 8 * value + 4;
+        _ => 0,
     }
-    // F1..F3, 80..BF, 80..BF, 80..BF
-    if a <= 0xF3 {
-        return 8 * value + 4;
-    }
-    // F4, 80..8F, 80..BF, 80..BF
-    if a == 0xF4 {
-        if 0x8F < b {
-            return 0;
-        }
-        return 8 * value + 4;
-    }
-    // No row begins with F5..FF.
-    0
 }
 
 // Returns the number of bytes of the character at an offset, or 0 if no character begins there.
@@ -163,41 +127,23 @@ pub fn char_len(s: &[u8], at: usize) -> usize
 pub fn in_range(lo: u8, hi: u8, b: u8) -> bool
     ensures { result ≡ within lo hi b }
 {
-    if b < lo {
-        return false;
-    }
-    b <= hi
+    (lo..=hi).contains(&b)
 }
 
 // Whether two bytes begin a character of three or four, by the rows of Table 3-7 of the Unicode Standard from E0 on.
+#[tactic(auto, unfolding(crate::specs::Rfc3629::begun_2, crate::specs::Rfc3629::utf8_3, crate::specs::Rfc3629::utf8_4))]
 pub fn second_fits(a: u8, b: u8) -> bool
     ensures { result ≡ begun_2 a b }
 {
-    if a < 0xE0 {
-        return false;
-    }
-    if a == 0xE0 {
-        return in_range(0xA0, 0xBF, b);
-    }
-    if a <= 0xEC {
-        return in_range(0x80, 0xBF, b);
-    }
-    if a == 0xED {
-        return in_range(0x80, 0x9F, b);
-    }
-    if a <= 0xEF {
-        return in_range(0x80, 0xBF, b);
-    }
-    if a == 0xF0 {
-        return in_range(0x90, 0xBF, b);
-    }
-    if a <= 0xF3 {
-        return in_range(0x80, 0xBF, b);
-    }
-    if a == 0xF4 {
-        return in_range(0x80, 0x8F, b);
-    }
-    false
+    matches!(
+        (a, b),
+        (0xE0, 0xA0..=0xBF)
+            | (0xE1..=0xEC | 0xEE..=0xEF, 0x80..=0xBF)
+            | (0xED, 0x80..=0x9F)
+            | (0xF0, 0x90..=0xBF)
+            | (0xF1..=0xF3, 0x80..=0xBF)
+            | (0xF4, 0x80..=0x8F)
+    )
 }
 
 // How many bytes belong to a bad place: the length of its maximal subpart. At the end it is 0.
@@ -229,28 +175,21 @@ pub fn read_char(s: &[u8], at: usize) -> ReadChar
     if s.len() <= at {
         return ReadChar::End;
     }
-    let number = decode(s, at);
-    if number == 0 {
-        let width = bad_width(s, at);
-        return ReadChar::IllFormed { width };
+    match decode(s, at) {
+        0 => ReadChar::IllFormed {
+            width: bad_width(s, at),
+        },
+        number => ReadChar::Char {
+            value: number / 8,
+            width: (number % 8) as usize,
+        },
     }
-    let value = number / 8;
-    let width = (number % 8) as usize;
-    ReadChar::Char { value, width }
 }
 
 // Tests whether a number is a scalar value: at most 10FFFF and no surrogate.
+#[tactic(auto, unfolding(crate::specs::Rfc3629::is_scalar))]
 pub fn is_scalar(ch: u32) -> bool
     ensures { result ≡ is_scalar ch }
 {
-    if ch <= 0xD7FF {
-        return true;
-    }
-    if ch < 0xE000 {
-        return false;
-    }
-    if 0x10FFFF < ch {
-        return false;
-    }
-    true
+    matches!(ch, 0..=0xD7FF | 0xE000..=0x10FFFF)
 }

@@ -13,7 +13,7 @@ pub fn valid_up_to(s: &[u8]) -> usize
 {
     let mut at: usize = 0;
     loop {
-        let width = (utf8::decode(s, at) % 8) as usize;
+        let width = utf8::char_len(s, at);
         if width == 0 {
             return at;
         }

@@ -25,13 +25,7 @@ fn short_fits(first: u8, last: u8) -> bool
     ensures { result ≡ true → 0x80 ≤ first → (0xC2 ≤ first) × (first ≤ 0xDF) × (0x80 ≤ last) × (last ≤ 0xBF) }
 {
     let more = bytes_after(first);
-    if 0x1D < masked(first as usize + 62, more) % 256 {
-        return false;
-    }
-    if bytes_after(last) != more {
-        return false;
-    }
-    last <= 0xBF
+    masked(first as usize + 62, more) % 256 <= 0x1D && bytes_after(last) == more && last <= 0xBF
 }
 
 // Skips characters of one and of two bytes, and returns the offset after them. It stops after three of one byte in sequence, because
@@ -56,40 +50,26 @@ fn short_end(s: &[u8], from: usize) -> usize
     at
 }
 
-// Skips characters of three bytes whose first byte is E1 to EF and not ED, and returns the offset after them. Their second byte can be any
-// tail (UTF8-3).
+// Whether three bytes are a character whose first byte is E1 to EF and not ED. Its second byte can be any tail (UTF8-3).
+fn three_fits(a: u8, b: u8, c: u8) -> bool
+    ensures { result ≡ true → (0xE1 ≤ a) × (a ≤ 0xEF) × (a ≡ 0xED → ⊥) × (0x80 ≤ b) × (b ≤ 0xBF) × (0x80 ≤ c) × (c ≤ 0xBF) }
+{
+    matches!(
+        (a, b, c),
+        (0xE1..=0xEC | 0xEE..=0xEF, 0x80..=0xBF, 0x80..=0xBF)
+    )
+}
+
+// Skips characters of three bytes whose first byte is E1 to EF and not ED, and returns the offset after them.
 fn three_end(s: &[u8], from: usize) -> usize
     requires { from ≤ length s.now }
     ensures { CharsBetween s.now from result }
 {
     let mut at = from;
-    loop {
-        if s.len() - at < 3 {
-            return at;
-        }
-        if s[at] < 0xE1 {
-            return at;
-        }
-        if 0xEF < s[at] {
-            return at;
-        }
-        if s[at] == 0xED {
-            return at;
-        }
-        if s[at + 1] < 0x80 {
-            return at;
-        }
-        if 0xBF < s[at + 1] {
-            return at;
-        }
-        if s[at + 2] < 0x80 {
-            return at;
-        }
-        if 0xBF < s[at + 2] {
-            return at;
-        }
+    while s.len() - at >= 3 && three_fits(s[at], s[at + 1], s[at + 2]) {
         at += 3;
     }
+    at
 }
 
 // How many bytes follow the first byte of a character of three or four bytes.
@@ -105,26 +85,16 @@ fn bytes_after_long(first: u8) -> usize
 fn long_fits(first: u8, second: u8) -> bool
     ensures { result ≡ true → (first ≤ 0xF3) × (first ≡ 0xED → ⊥) × (first ≡ 0xF0 → 0x80 ≤ second → 0x90 ≤ second) }
 {
-    if 0xF3 < first {
-        return false;
-    }
-    if first == 0xED {
-        return false;
-    }
-    16 <= (256 * (first as usize) + (second as usize) + 0xF80) % 65536
+    first <= 0xF3
+        && first != 0xED
+        && 16 <= (256 * (first as usize) + (second as usize) + 0xF80) % 65536
 }
 
 // Whether three bytes are tails.
 fn are_tails(a: u8, b: u8, c: u8) -> bool
     ensures { result ≡ true → (0x80 ≤ a) × (a ≤ 0xBF) × (0x80 ≤ b) × (b ≤ 0xBF) × (0x80 ≤ c) × (c ≤ 0xBF) }
 {
-    if !utf8::in_range(0x80, 0xBF, a) {
-        return false;
-    }
-    if !utf8::in_range(0x80, 0xBF, b) {
-        return false;
-    }
-    utf8::in_range(0x80, 0xBF, c)
+    matches!((a, b, c), (0x80..=0xBF, 0x80..=0xBF, 0x80..=0xBF))
 }
 
 // Skips characters of three and of four bytes, and returns the offset after them. The third byte of a character of three bytes is its last.

@@ -1,9 +1,10 @@
 // Compares the findings of a text with a line. The proved analysis gives the counts, the choices and the replacements
-// of the text's items. Each function matches one of them at a place of the line (see notation.rt).
-use crate::notation::{Read, bytes_of, is_end, mark, number, read_to, selector, span};
-use crate::parse::Place;
+// of the text's items.
+use crate::fault::{Fault, check};
+use crate::line::Line;
 use analysis::ItemAnalysis;
-use analysis::types::{ChoiceStep, Finding, MendAnswer, NonCanonicality};
+use analysis::types::{Finding, NonCanonicality};
+use base::Refusal;
 use emoji::presentation::Presentation;
 use policy::Policy;
 use positions::TextCount;
@@ -11,220 +12,162 @@ use replacing::analyze_scan_item;
 use replacing::choice::{choice_replacement, next_choice};
 use replacing::render::{canonical_replacement_with_decisions, default_canonical_replacement};
 
-// The length of the buffer for a replacement.
+// The length of the buffer for a replacement. The calls that write one are lent a buffer.
 const ROOM: usize = 2048;
 
 // Lists of decisions: all text, all emoji, emoji and text in turn. A call uses the first decisions of a list.
-const ALL_TEXT: [u8; 8] = *b"\x00\x00\x00\x00\x00\x00\x00\x00";
+const ALL_TEXT: [u8; 8] = [0; 8];
 
-const ALL_EMOJI: [u8; 8] = *b"\x01\x01\x01\x01\x01\x01\x01\x01";
+const ALL_EMOJI: [u8; 8] = [1; 8];
 
-const BY_TURNS: [u8; 8] = *b"\x01\x00\x01\x00\x01\x00\x01\x00";
+const BY_TURNS: [u8; 8] = [1, 0, 1, 0, 1, 0, 1, 0];
 
-// Matches a count after its letter, or nothing if it is 0.
-fn count(line: &[u8], place: Place, letter: u8, n: usize) -> Place {
-    if n == 0 {
-        return place;
-    }
-    number(line, mark(line, place, letter), n)
-}
-
-// Matches the first four counts.
-fn first_counts(line: &[u8], place: Place, counts: NonCanonicality) -> Place {
-    let u = count(line, place, b'u', counts.unsanctioned_selectors);
-    let m = count(line, u, b'm', counts.modifier_defective_selectors);
-    let a = count(line, m, b'a', counts.additional_defective_selectors);
-    count(line, a, b'c', counts.tag_conflicting_selectors)
-}
-
-// Matches the last four counts.
-fn last_counts(line: &[u8], place: Place, counts: NonCanonicality) -> Place {
-    let f = count(line, place, b'f', counts.tag_forced_presentations);
-    let r = count(line, f, b'r', counts.tag_redundant_selectors);
-    let p = count(line, r, b'p', counts.policy_redundant_selectors);
-    count(line, p, b'd', counts.presentation_decisions)
-}
-
-// Matches a replacement after a sign. The replacement is at the front of the bytes.
-fn written(line: &[u8], place: Place, sign: u8, answer: MendAnswer, bytes: &[u8]) -> Place {
-    let MendAnswer::Mended { len } = answer else {
-        return Place::Missing;
-    };
-    if len > bytes.len() {
-        return Place::Missing;
-    }
-    bytes_of(line, mark(line, place, sign), &bytes[0..len])
-}
-
-// Matches the replacement of the unit at an offset of an item's bytes, for a decision.
-fn chosen(
-    line: &[u8],
-    place: Place,
-    raw: &[u8],
-    at: usize,
+// A line and a text with a policy.
+#[derive(Drop)]
+struct Findings<'a> {
+    line: Line<'a>,
+    text: &'a [u8],
     policy: Policy,
-    decision: Presentation,
-) -> Place {
-    let mut bytes = [0u8; ROOM];
-    let answer = choice_replacement(raw, at, policy, decision, &mut bytes);
-    written(line, place, b'+', answer, &bytes)
 }
 
-// Matches the choices of an item's bytes: for each its default and its two replacements.
-fn choices(line: &[u8], place: Place, raw: &[u8], policy: Policy) -> Place {
-    let mut past = place;
-    let mut at = 0;
-    while at < raw.len() {
-        let ChoiceStep::Choice(choice) = next_choice(raw, at, policy) else {
-            return past;
-        };
-        if choice.next <= at {
-            return Place::Missing;
+impl Findings<'_> {
+    // Reads a count after its letter, or nothing if it is 0.
+    fn count(&mut self, letter: u8, n: usize) -> Result<(), Fault> {
+        if n == 0 {
+            return Ok(());
         }
-        let default = choice.default;
-        let past_default = selector(line, past, default);
-        let past_text = chosen(
-            line,
-            past_default,
-            raw,
-            choice.start,
-            policy,
-            Presentation::Text,
-        );
-        past = chosen(
-            line,
-            past_text,
-            raw,
-            choice.start,
-            policy,
-            Presentation::Emoji,
-        );
-        at = choice.next;
+        self.line.mark(letter)?;
+        self.line.same_number(n)
     }
-    past
-}
 
-// Matches the replacement of the finding at an offset, with the default for every decision.
-fn by_default(line: &[u8], place: Place, text: &[u8], at: usize, policy: Policy) -> Place {
-    let mut bytes = [0u8; ROOM];
-    let answer = default_canonical_replacement(text, at, policy, &mut bytes);
-    written(line, place, b'=', answer, &bytes)
-}
-
-// Matches the replacement of the finding at an offset, with the given decisions.
-fn decided(
-    line: &[u8],
-    place: Place,
-    text: &[u8],
-    at: usize,
-    policy: Policy,
-    decisions: &[u8],
-) -> Place {
-    let mut bytes = [0u8; ROOM];
-    let answer = canonical_replacement_with_decisions(text, at, policy, decisions, &mut bytes);
-    written(line, place, b'=', answer, &bytes)
-}
-
-// Matches the replacement of the finding at an offset, with the first n decisions of a list.
-fn decided_by(
-    line: &[u8],
-    place: Place,
-    text: &[u8],
-    at: usize,
-    policy: Policy,
-    list: &[u8],
-    n: usize,
-) -> Place {
-    if n > list.len() {
-        return Place::Missing;
+    // Reads the eight counts.
+    fn counts(&mut self, counts: NonCanonicality) -> Result<(), Fault> {
+        self.count(b'u', counts.unsanctioned_selectors)?;
+        self.count(b'm', counts.modifier_defective_selectors)?;
+        self.count(b'a', counts.additional_defective_selectors)?;
+        self.count(b'c', counts.tag_conflicting_selectors)?;
+        self.count(b'f', counts.tag_forced_presentations)?;
+        self.count(b'r', counts.tag_redundant_selectors)?;
+        self.count(b'p', counts.policy_redundant_selectors)?;
+        self.count(b'd', counts.presentation_decisions)
     }
-    decided(line, place, text, at, policy, &list[0..n])
-}
 
-// Matches the replacements with n decisions from each list, after the replacement by default.
-fn replacements(
-    line: &[u8],
-    place: Place,
-    text: &[u8],
-    at: usize,
-    policy: Policy,
-    n: usize,
-) -> Place {
-    if n == 0 {
-        return place;
-    }
-    let past_text = decided_by(line, place, text, at, policy, &ALL_TEXT, n);
-    let past_emoji = decided_by(line, past_text, text, at, policy, &ALL_EMOJI, n);
-    if n == 1 {
-        return past_emoji;
-    }
-    decided_by(line, past_emoji, text, at, policy, &BY_TURNS, n)
-}
-
-// Matches a finding after a blank.
-fn finding_at(line: &[u8], place: Place, text: &[u8], finding: Finding, policy: Policy) -> Place {
-    let start = finding.start;
-    let end = finding.end;
-    if start > end {
-        return Place::Missing;
-    }
-    if end > text.len() {
-        return Place::Missing;
-    }
-    let past_span = span(line, mark(line, place, b' '), start, end);
-    let counts = finding.counts;
-    let past_first = first_counts(line, mark(line, past_span, b':'), counts);
-    let past_counts = mark(line, last_counts(line, past_first, counts), b':');
-    let past_choices = choices(line, past_counts, &text[start..end], policy);
-    let past_default = by_default(line, past_choices, text, start, policy);
-    replacements(
-        line,
-        past_default,
-        text,
-        start,
-        policy,
-        counts.presentation_decisions,
-    )
-}
-
-// Matches the finding of the item at an offset of the text, or nothing if it has none. The line has no characters or units.
-fn finding_of(line: &[u8], place: Place, text: &[u8], at: usize, policy: Policy) -> Read {
-    match analyze_scan_item(text, at, TextCount { chars: 0, units: 0 }, policy) {
-        ItemAnalysis::End => Read::Apart,
-        ItemAnalysis::Canonical {
-            end,
-            char_end: _,
-            unit_end: _,
-        } => read_to(place, end),
-        ItemAnalysis::NonCanonical(finding) => read_to(
-            finding_at(line, place, text, finding, policy),
-            finding.end,
-        ),
-    }
-}
-
-// Matches the findings of the text.
-fn findings(line: &[u8], place: Place, text: &[u8], policy: Policy) -> Place {
-    let mut past = place;
-    let mut at = 0;
-    while at < text.len() {
-        let Read::To {
-            place: next,
-            at: after,
-        } = finding_of(line, past, text, at, policy)
-        else {
-            return Place::Missing;
+    // Reads a replacement after a sign. `write` writes it at the front of a buffer.
+    fn written<F: FnOnce(&mut [u8]) -> Result<usize, Refusal>>(
+        &mut self,
+        sign: u8,
+        write: F,
+    ) -> Result<(), Fault>
+        requires { F.IsAlwaysCallable write }
+    {
+        let mut bytes = [0u8; ROOM];
+        let Ok(len) = write(&mut bytes) else {
+            return Err(Fault::Differs);
         };
-        if after <= at {
-            return Place::Missing;
-        }
-        past = Place::Past(next);
-        at = after;
+        let replacement = bytes.get(..len).ok_or(Fault::Differs)?;
+        self.line.mark(sign)?;
+        self.line.same_bytes(replacement)
     }
-    past
+
+    // Reads the replacement of the unit at an offset of an item's bytes, for a decision.
+    fn chosen(&mut self, raw: &[u8], at: usize, decision: Presentation) -> Result<(), Fault> {
+        let policy = self.policy;
+        self.written(
+            b'+',
+            |out| choice_replacement(raw, at, policy, decision, out),
+        )
+    }
+
+    // Reads the choices of an item's bytes: for each its default and its two replacements. Each choice has at least one
+    // byte.
+    fn choices(&mut self, raw: &[u8]) -> Result<(), Fault> {
+        let mut at = 0;
+        for _ in raw {
+            match next_choice(raw, at, self.policy) {
+                Some(choice) => {
+                    self.line.same_selector(choice.default)?;
+                    self.chosen(raw, choice.start, Presentation::Text)?;
+                    self.chosen(raw, choice.start, Presentation::Emoji)?;
+                    at = choice.next;
+                }
+                None => break,
+            }
+        }
+        Ok(())
+    }
+
+    // Reads the replacement of the finding at an offset, with the default for every decision.
+    fn by_default(&mut self, at: usize) -> Result<(), Fault> {
+        let text = self.text;
+        let policy = self.policy;
+        self.written(
+            b'=',
+            |out| default_canonical_replacement(text, at, policy, out),
+        )
+    }
+
+    // Reads the replacement of the finding at an offset, with the first n decisions of a list.
+    fn decided(&mut self, at: usize, list: &[u8], n: usize) -> Result<(), Fault> {
+        let text = self.text;
+        let policy = self.policy;
+        let decisions = list.get(..n).ok_or(Fault::Differs)?;
+        self.written(b'=', |out| {
+            canonical_replacement_with_decisions(text, at, policy, decisions, out)
+        })
+    }
+
+    // Reads the replacements of the finding at an offset, which has n decisions.
+    fn replacements(&mut self, at: usize, n: usize) -> Result<(), Fault> {
+        self.by_default(at)?;
+        if n > 0 {
+            self.decided(at, &ALL_TEXT, n)?;
+            self.decided(at, &ALL_EMOJI, n)?;
+        }
+        if n > 1 {
+            self.decided(at, &BY_TURNS, n)?;
+        }
+        Ok(())
+    }
+
+    // Reads a finding after a blank.
+    fn finding(&mut self, finding: Finding) -> Result<(), Fault> {
+        let raw = self
+            .text
+            .get(finding.start..finding.end)
+            .ok_or(Fault::Differs)?;
+        self.line.mark(b' ')?;
+        self.line.same_span(finding.start, finding.end)?;
+        self.line.mark(b':')?;
+        self.counts(finding.counts)?;
+        self.line.mark(b':')?;
+        self.choices(raw)?;
+        self.replacements(finding.start, finding.counts.presentation_decisions)
+    }
+
+    // Reads the findings of the text. The line has no characters or units. Each item has at least one byte.
+    fn findings(&mut self) -> Result<(), Fault> {
+        let mut at = 0;
+        for _ in self.text {
+            match analyze_scan_item(self.text, at, TextCount { chars: 0, units: 0 }, self.policy) {
+                ItemAnalysis::End => break,
+                ItemAnalysis::Canonical {
+                    end,
+                    char_end: _,
+                    unit_end: _,
+                } => at = end,
+                ItemAnalysis::NonCanonical(finding) => {
+                    self.finding(finding)?;
+                    at = finding.end;
+                }
+            }
+        }
+        check(self.text.len() <= at)
+    }
 }
 
-// Tests whether the findings of the text are those of the line from `at` on.
-pub(crate) fn findings_agree(line: &[u8], at: usize, text: &[u8], policy: Policy) -> bool {
-    is_end(line, findings(line, Place::Past(at), text, policy))
+// Compares the findings of the text with those of the line.
+pub(crate) fn findings_agree(line: Line<'_>, text: &[u8], policy: Policy) -> Result<(), Fault> {
+    let mut findings = Findings { line, text, policy };
+    findings.findings()?;
+    findings.line.same_end()
 }

@@ -1,118 +1,84 @@
-// Replays a line of the files of items. The policies are stored, since other lines name them by number. A line `under`
-// is about the text of the last line `text`.
+// The grammar of the files of items, as in the comments at the start of each file, and the replaying of their lines.
+// Lines `under` name a policy by number, and are about the text of the last line `text`.
+use crate::fault::{Fault, check};
 use crate::finding_answers::findings_agree;
 use crate::item_answers::items_agree;
-use crate::item_format::{END, POLICY, TEXT, TEXT_ROOM, TextRead, UNDER, may_follow, text_of};
-use crate::lines::{COMMENT, word_end};
-use crate::parse::{Place, VALUES, ends_with, fields_at};
+use crate::keyword::Keyword;
+use crate::known::{keep, known, next_number};
+use crate::line::{Line, TEXT_BYTES};
 use crate::policy_bytes::round_trips;
-use crate::policy_format::POLICIES;
-use crate::policy_store::{STORE_WORDS, keep_policy, policy_of};
+use crate::policy_file::POLICIES;
 use crate::scanner_answers::scanner_agrees;
-use crate::sets::{policy_at, same_policy};
-use crate::walk::{KINDS, Outcome, compared};
+use crate::sets::same_policy;
+use crate::walk::StoredFile;
+use arrayvec::ArrayVec;
 use policy::Policy;
 
-// Stores the policy whose words are the values. Tests whether it is a policy that is equal after writing and reading
-// its bytes; the first must be the default policy.
-fn policy_agrees(number: u64, values: &[u64; VALUES], store: &mut [u64; STORE_WORDS]) -> bool {
-    let policy = policy_at(values, 0);
-    keep_policy(store, number, policy);
-    if number == 0 {
-        if !same_policy(policy, Policy::default()) {
-            return false;
+// The keywords whose lines are counted.
+pub const KEYWORDS: [Keyword; 3] = [Keyword::Policy, Keyword::Text, Keyword::Under];
+
+// The policies of the lines so far, and the text of the last line `text`.
+#[derive(Drop)]
+pub(crate) struct ItemFile {
+    policies: [Option<Policy>; POLICIES],
+    text: ArrayVec<u8, TEXT_BYTES>,
+}
+
+impl ItemFile {
+    pub(crate) fn new() -> Self {
+        ItemFile {
+            policies: [None; POLICIES],
+            text: ArrayVec::new(),
         }
     }
-    round_trips(policy, values, 0)
-}
 
-// Replays a line `policy`. `number` is the number of such lines before it.
-fn policy_outcome(line: &[u8], number: u64, store: &mut [u64; STORE_WORDS]) -> Outcome {
-    if number >= POLICIES as u64 {
-        return Outcome::Malformed;
+    // Tests whether the policy of a line is equal after writing and reading its bytes. The first must be the default
+    // policy.
+    fn policy(&mut self, mut line: Line<'_>) -> Result<(), Fault> {
+        let policy = line.policy()?;
+        line.end()?;
+        let number = next_number(&self.policies)?;
+        keep(&mut self.policies, number as u64, policy)?;
+        check(number != 0 || same_policy(policy, Policy::default()))?;
+        check(round_trips(policy))
     }
-    let mut values = [0u64; VALUES];
-    if !ends_with(
-        line,
-        word_end(line, 0),
-        b"WWWWWWWWWWWWWWWWWWWWWWWW",
-        &mut values,
-    ) {
-        return Outcome::Malformed;
-    }
-    compared(policy_agrees(number, &values, store))
-}
 
-// Compares the items of the text of a line.
-fn text_outcome(line: &[u8]) -> Outcome {
-    let mut bytes = [0u8; TEXT_ROOM];
-    let TextRead::Text { len, end } = text_of(line, &mut bytes) else {
-        return Outcome::Malformed;
-    };
-    if len > TEXT_ROOM {
-        return Outcome::Malformed;
+    // Compares the items of a text.
+    fn text(&mut self, mut line: Line<'_>) -> Result<(), Fault> {
+        self.text = line.text()?;
+        let text = self.text.as_slice();
+        items_agree(line, text)?;
+        check(scanner_agrees(text))
     }
-    let text = &bytes[0..len];
-    compared(items_agree(line, end, text) && scanner_agrees(text))
-}
 
-// Compares the findings of a line from `at` on with those of the text of the line `subject`.
-fn findings_outcome(line: &[u8], at: usize, subject: &[u8], policy: Policy) -> Outcome {
-    let mut bytes = [0u8; TEXT_ROOM];
-    let TextRead::Text { len, end: _ } = text_of(subject, &mut bytes) else {
-        return Outcome::Malformed;
-    };
-    if len > TEXT_ROOM {
-        return Outcome::Malformed;
-    }
-    compared(findings_agree(line, at, &bytes[0..len], policy))
-}
-
-// Compares the findings of a line under one of the stored policies.
-fn under_outcome(
-    line: &[u8],
-    subject: &[u8],
-    policies: u64,
-    store: &[u64; STORE_WORDS],
-) -> Outcome {
-    let mut values = [0u64; VALUES];
-    let Place::Past(at) = fields_at(line, word_end(line, 0), b"D", &mut values) else {
-        return Outcome::Malformed;
-    };
-    if values[0] >= policies {
-        return Outcome::Malformed;
-    }
-    findings_outcome(line, at, subject, policy_of(store, values[0]))
-}
-
-// Replays the last line.
-fn end_outcome(line: &[u8]) -> Outcome {
-    if word_end(line, 0) == line.len() {
-        Outcome::AsStored
-    } else {
-        Outcome::Malformed
+    // Compares the findings of the text under a policy.
+    fn under(&self, mut line: Line<'_>) -> Result<(), Fault> {
+        let number = line.digit()?;
+        let policy = known(&self.policies, number)?;
+        findings_agree(line, self.text.as_slice(), policy)
     }
 }
 
-// Replays a line of this kind after a line of the kind `last`. `subject` is the last line `text`. The counts say how
-// many lines of each kind came before.
-pub(crate) fn outcome_of(
-    subject: &[u8],
-    line: &[u8],
-    last: usize,
-    kind: usize,
-    seen: &[u64; KINDS],
-    store: &mut [u64; STORE_WORDS],
-) -> Outcome {
-    if !may_follow(last, kind) {
-        return Outcome::Malformed;
+impl StoredFile for ItemFile {
+    fn may_follow(last: Keyword, keyword: Keyword) -> bool {
+        match keyword {
+            Keyword::Comment => last == Keyword::Comment,
+            Keyword::Policy => matches!(last, Keyword::Comment | Keyword::Policy),
+            Keyword::Text => matches!(last, Keyword::Policy | Keyword::Under),
+            Keyword::Under => matches!(last, Keyword::Text | Keyword::Under),
+            Keyword::End => last == Keyword::Under,
+            _ => false,
+        }
     }
-    match kind {
-        COMMENT => Outcome::AsStored,
-        POLICY => policy_outcome(line, seen[POLICY], store),
-        TEXT => text_outcome(line),
-        UNDER => under_outcome(line, subject, seen[POLICY], store),
-        END => end_outcome(line),
-        _ => Outcome::Malformed,
+
+    fn replay_line(&mut self, keyword: Keyword, line: Line<'_>) -> Result<(), Fault> {
+        match keyword {
+            Keyword::Comment => Ok(()),
+            Keyword::Policy => self.policy(line),
+            Keyword::Text => self.text(line),
+            Keyword::Under => self.under(line),
+            Keyword::End => line.end(),
+            _ => Err(Fault::Malformed),
+        }
     }
 }

@@ -1,79 +1,252 @@
-// Replays a line of policy.txt. The sets and policies of the lines `set` and `policy` are stored, since other lines
-// name them by number. Each set has a line `complement`, which shows a wrong bit of the set.
-use crate::parse::VALUES;
-use crate::policy_answers::{char_of, truth};
-use crate::policy_format::{
-    COMPLEMENT, CONTAINS, DEFAULT, DIFFERENCE, DISPLAY, ENTRIES, EQUAL, INTERSECTION, KEYCAP,
-    NAME_VALUE, NAMED, POLICY, RULE, SET, SINGLETON, SIZE, SYMMETRIC, TEXT_VALUE, UNION,
-};
-use crate::policy_store::{STORE_WORDS, keep_policy, keep_set, policy_of, policy_place, set_of};
+// The grammar of policy.txt, as in the comments at its start, and the replaying of its lines. Each set has a line
+// `complement`, which shows a wrong bit of the set.
+use crate::fault::{Fault, check};
+use crate::keyword::Keyword;
+use crate::known::{keep, known};
+use crate::line::Line;
+use crate::named_set::NAMED_SETS;
 use crate::sets::is_stored;
-use crate::walk::{KINDS, Outcome, compared};
-use crate::{policy_answers, policy_bytes, policy_format, sets};
+use crate::walk::StoredFile;
+use crate::{policy_answers, policy_bytes};
 use policy::Policy;
 use policy_key_set::PolicyKeySet;
 
-// Stores a set or a policy, if lines after this one name it by number.
-fn keep(kind: usize, values: &[u64; VALUES], store: &mut [u64; STORE_WORDS]) {
-    let number = values[0];
-    if kind == SET {
-        keep_set(store, number, sets::keys_at(values, 1));
+// The keywords whose lines are counted.
+pub const KEYWORDS: [Keyword; 17] = [
+    Keyword::Entries,
+    Keyword::Size,
+    Keyword::Default,
+    Keyword::Named,
+    Keyword::Singleton,
+    Keyword::Keycap,
+    Keyword::Set,
+    Keyword::Complement,
+    Keyword::Contains,
+    Keyword::Display,
+    Keyword::Union,
+    Keyword::Intersection,
+    Keyword::Symmetric,
+    Keyword::Difference,
+    Keyword::Equal,
+    Keyword::Policy,
+    Keyword::Rule,
+];
+
+// The largest number of sets, and of policies.
+const SETS: usize = 25;
+
+pub const POLICIES: usize = 8;
+
+// The sets and policies of the lines so far, and the numbers of lines `named` and `complement`.
+#[derive(Drop)]
+pub(crate) struct PolicyFile {
+    sets: [Option<PolicyKeySet>; SETS],
+    policies: [Option<Policy>; POLICIES],
+    named: usize,
+    complements: u64,
+}
+
+// Replays the line `entries`.
+fn entries(mut line: Line<'_>) -> Result<(), Fault> {
+    let entries = line.number()?;
+    let words = line.number()?;
+    line.end()?;
+    check(policy_answers::entries_agree(entries, words))
+}
+
+// Replays the line `size`.
+fn size(mut line: Line<'_>) -> Result<(), Fault> {
+    let prefer_bare = line.sizes()?;
+    let bare_as_text = line.sizes()?;
+    line.end()?;
+    check(policy_answers::sizes_agree(prefer_bare, bare_as_text))
+}
+
+// Replays the line `default`.
+fn default(mut line: Line<'_>) -> Result<(), Fault> {
+    let policy = line.policy()?;
+    line.end()?;
+    check(policy_answers::default_agrees(policy))
+}
+
+// Replays a line about the set of a key.
+fn key<F: Fn(u32) -> PolicyKeySet>(mut line: Line<'_>, set_of: F) -> Result<(), Fault>
+    requires { F.IsAlwaysCallable set_of }
+{
+    let ch = line.code_point()?;
+    let stored = line.stored_set()?;
+    line.end()?;
+    check(is_stored(set_of(ch), stored))
+}
+
+impl PolicyFile {
+    pub(crate) fn new() -> Self {
+        PolicyFile {
+            sets: [None; SETS],
+            policies: [None; POLICIES],
+            named: 0,
+            complements: 0,
+        }
     }
-    if kind == POLICY {
-        let prefer_bare = set_of(store, values[1]);
-        let bare_as_text = set_of(store, values[2]);
+
+    fn named(&mut self, mut line: Line<'_>) -> Result<(), Fault> {
+        let name = line.name()?;
+        let stored = line.stored_set()?;
+        line.end()?;
+        let named = NAMED_SETS.get(self.named).ok_or(Fault::Malformed)?;
+        if named.name().as_bytes() != name {
+            return Err(Fault::Malformed);
+        }
+        self.named += 1;
+        check(is_stored(named.keys(), stored))
+    }
+
+    fn set(&mut self, mut line: Line<'_>) -> Result<(), Fault> {
+        let number = line.number()?;
+        let stored = line.stored_set()?;
+        line.end()?;
+        keep(&mut self.sets, number, stored.keys)?;
+        check(policy_answers::set_agrees(stored))
+    }
+
+    fn complement(&mut self, mut line: Line<'_>) -> Result<(), Fault> {
+        let number = line.number()?;
+        let stored = line.stored_set()?;
+        line.end()?;
+        let set = known(&self.sets, number)?;
+        if number != self.complements {
+            return Err(Fault::Malformed);
+        }
+        self.complements = self.complements.saturating_add(1);
+        check(is_stored(!set, stored))
+    }
+
+    fn contains(&self, mut line: Line<'_>) -> Result<(), Fault> {
+        let number = line.number()?;
+        let ch = line.code_point()?;
+        let ordinary = line.truth()?;
+        let keycap = line.truth()?;
+        line.end()?;
+        let set = known(&self.sets, number)?;
+        check(
+            PolicyKeySet::contains(set, ch) == ordinary
+                && PolicyKeySet::contains_keycap(set, ch) == keycap,
+        )
+    }
+
+    fn display(&self, mut line: Line<'_>) -> Result<(), Fault> {
+        let number = line.number()?;
+        let text = line.last_text()?;
+        line.end()?;
+        let set = known(&self.sets, number)?;
+        policy_answers::display_agrees(set, text)
+    }
+
+    // Replays a line about an operation on two sets.
+    fn operation<F: Fn(PolicyKeySet, PolicyKeySet) -> PolicyKeySet>(
+        &self,
+        mut line: Line<'_>,
+        operation: F,
+    ) -> Result<(), Fault>
+        requires { F.IsAlwaysCallable operation }
+    {
+        let first = line.number()?;
+        let second = line.number()?;
+        let stored = line.stored_set()?;
+        line.end()?;
+        let a = known(&self.sets, first)?;
+        let b = known(&self.sets, second)?;
+        check(is_stored(operation(a, b), stored))
+    }
+
+    fn equal(&self, mut line: Line<'_>) -> Result<(), Fault> {
+        let first = line.number()?;
+        let second = line.number()?;
+        let are_equal = line.truth()?;
+        line.end()?;
+        let a = known(&self.sets, first)?;
+        let b = known(&self.sets, second)?;
+        check(PolicyKeySet::eq(a, b) == are_equal)
+    }
+
+    fn policy(&mut self, mut line: Line<'_>) -> Result<(), Fault> {
+        let number = line.number()?;
+        let first = line.number()?;
+        let second = line.number()?;
+        line.end()?;
+        let prefer_bare = known(&self.sets, first)?;
+        let bare_as_text = known(&self.sets, second)?;
         let policy = Policy {
             prefer_bare,
             bare_as_text,
         };
-        keep_policy(store, number, policy);
+        keep(&mut self.policies, number, policy)?;
+        check(policy_bytes::round_trips(policy))
+    }
+
+    // Replays a line about a rule of the last policy.
+    fn rule(&self, mut line: Line<'_>) -> Result<(), Fault> {
+        let number = line.number()?;
+        let base = line.code_point()?;
+        let ordinary = line.digit()?;
+        let keycap = line.digit()?;
+        line.end()?;
+        let policy = known(&self.policies, number)?;
+        if known(&self.policies, number.saturating_add(1)).is_ok() {
+            return Err(Fault::Malformed);
+        }
+        check(policy_answers::rules_agree(policy, base, ordinary, keycap))
     }
 }
 
-// Tests whether the computed answer is the one of the line. If its first two values are numbers of sets, a and b are
-// these sets.
-fn agrees(kind: usize, line: &[u8], values: &[u64; VALUES], store: &[u64; STORE_WORDS]) -> bool {
-    let first = values[0];
-    let a = set_of(store, first);
-    let b = set_of(store, values[1]);
-    match kind {
-        ENTRIES => policy_answers::entries_agree(values),
-        SIZE => policy_answers::sizes_agree(values),
-        DEFAULT => policy_answers::default_agrees(values),
-        NAMED => is_stored(policy_answers::named(values[NAME_VALUE]), values, 0),
-        SINGLETON => is_stored(PolicyKeySet::singleton(char_of(first)), values, 1),
-        KEYCAP => is_stored(PolicyKeySet::singleton_keycap(char_of(first)), values, 1),
-        SET => policy_answers::set_agrees(values),
-        COMPLEMENT => is_stored(PolicyKeySet::not(a), values, 1),
-        CONTAINS => policy_answers::contains_agrees(a, values),
-        DISPLAY => policy_answers::display_agrees(a, line, values[TEXT_VALUE] as usize),
-        UNION | INTERSECTION | SYMMETRIC | DIFFERENCE => is_stored(
-            policy_answers::operation(kind, a, b),
-            values,
-            2,
-        ),
-        EQUAL => truth(PolicyKeySet::eq(a, b)) == values[2],
-        POLICY => policy_bytes::round_trips(policy_of(store, first), store, policy_place(first)),
-        RULE => policy_answers::rule_agrees(policy_of(store, first), values),
-        _ => true,
+impl StoredFile for PolicyFile {
+    // The lines for a key take turns, and so do the five for two sets. Each policy stands before its rules.
+    fn may_follow(last: Keyword, keyword: Keyword) -> bool {
+        match last {
+            Keyword::Comment => matches!(keyword, Keyword::Comment | Keyword::Entries),
+            Keyword::Entries => keyword == Keyword::Size,
+            Keyword::Size => keyword == Keyword::Default,
+            Keyword::Default => keyword == Keyword::Named,
+            Keyword::Named => matches!(keyword, Keyword::Named | Keyword::Singleton),
+            Keyword::Singleton => keyword == Keyword::Keycap,
+            Keyword::Keycap => matches!(keyword, Keyword::Singleton | Keyword::Set),
+            Keyword::Set => matches!(keyword, Keyword::Set | Keyword::Complement),
+            Keyword::Complement => matches!(keyword, Keyword::Complement | Keyword::Contains),
+            Keyword::Contains => matches!(keyword, Keyword::Contains | Keyword::Display),
+            Keyword::Display => matches!(keyword, Keyword::Display | Keyword::Union),
+            Keyword::Union => keyword == Keyword::Intersection,
+            Keyword::Intersection => keyword == Keyword::Symmetric,
+            Keyword::Symmetric => keyword == Keyword::Difference,
+            Keyword::Difference => keyword == Keyword::Equal,
+            Keyword::Equal => matches!(keyword, Keyword::Union | Keyword::Policy),
+            Keyword::Policy => keyword == Keyword::Rule,
+            Keyword::Rule => matches!(keyword, Keyword::Rule | Keyword::Policy | Keyword::End),
+            Keyword::Text | Keyword::Under | Keyword::End => false,
+        }
     }
-}
 
-// Replays a line of this kind after a line of the kind `last`.
-pub(crate) fn outcome_of(
-    line: &[u8],
-    last: usize,
-    kind: usize,
-    seen: &[u64; KINDS],
-    store: &mut [u64; STORE_WORDS],
-) -> Outcome {
-    let mut values = [0u64; VALUES];
-    if !policy_format::is_well_formed(line, last, kind, &mut values) {
-        return Outcome::Malformed;
+    fn replay_line(&mut self, keyword: Keyword, line: Line<'_>) -> Result<(), Fault> {
+        match keyword {
+            Keyword::Comment => Ok(()),
+            Keyword::Entries => entries(line),
+            Keyword::Size => size(line),
+            Keyword::Default => default(line),
+            Keyword::Named => self.named(line),
+            Keyword::Singleton => key(line, PolicyKeySet::singleton),
+            Keyword::Keycap => key(line, PolicyKeySet::singleton_keycap),
+            Keyword::Set => self.set(line),
+            Keyword::Complement => self.complement(line),
+            Keyword::Contains => self.contains(line),
+            Keyword::Display => self.display(line),
+            Keyword::Union => self.operation(line, |a, b| a | b),
+            Keyword::Intersection => self.operation(line, |a, b| a & b),
+            Keyword::Symmetric => self.operation(line, |a, b| a ^ b),
+            Keyword::Difference => self.operation(line, |a, b| a - b),
+            Keyword::Equal => self.equal(line),
+            Keyword::Policy => self.policy(line),
+            Keyword::Rule => self.rule(line),
+            Keyword::End => line.end(),
+            Keyword::Text | Keyword::Under => Err(Fault::Malformed),
+        }
     }
-    if !policy_format::has_known_numbers(kind, &values, seen) {
-        return Outcome::Malformed;
-    }
-    keep(kind, &values, store);
-    compared(agrees(kind, line, &values, store))
 }

@@ -1,166 +1,155 @@
 // Compares the nested structure of an item with a line. The scanner's functions read the structure from the text, part
-// by part. Each function matches a part at a place of the line (see notation.rt).
-use crate::notation::{Read, bytes_of, character, mark, mark_and_selectors, read_to, selectors};
-use crate::parse::Place;
+// by part.
+use crate::fault::{Fault, check};
+use crate::line::Line;
 use item_parts::{
     EmojiLike, EmojiModification, EmojiStem, EmojiTagRun, SequencePart, consume_emoji_like,
     consume_emoji_modification, consume_emoji_tag_run, consume_sequence_part,
 };
+use scanner::selectors::PresentationSelectors;
 
-// Matches a letter and the tags of the text from one offset up to another.
-fn tags(line: &[u8], place: Place, text: &[u8], at: usize, end: usize) -> Place {
-    if end < at {
-        return Place::Missing;
-    }
-    if end > text.len() {
-        return Place::Missing;
-    }
-    bytes_of(line, mark(line, place, b'r'), &text[at..end])
+// A line and a text that are read together: what is left of the line, and the offset in the text.
+#[derive(Clone, Copy)]
+pub(crate) struct Reading<'a> {
+    pub line: Line<'a>,
+    pub text: &'a [u8],
+    pub at: usize,
 }
 
-// Matches a run of tags with its selectors.
-fn tag_run(line: &[u8], place: Place, text: &[u8], at: usize) -> Read {
-    match consume_emoji_tag_run(text, at) {
-        EmojiTagRun::Run {
-            tags_end,
-            selectors: run,
-        } => {
-            let past = tags(line, place, text, at, tags_end);
-            read_to(selectors(line, past, run), run.end)
+// Reads parts up to an offset in the text. Each part has at least one byte.
+fn read_parts<'a, F: Fn(&mut Reading<'a>) -> Result<(), Fault>>(
+    reading: &mut Reading<'a>,
+    end: usize,
+    part: F,
+) -> Result<(), Fault>
+    requires { F.IsAlwaysCallable part }
+{
+    for _ in reading.at..end {
+        if reading.at < end {
+            part(reading)?;
         }
-        EmojiTagRun::NoTags => Read::Apart,
     }
+    reading.ends(end)
 }
 
-// Matches the runs of tags from one offset up to another.
-fn tag_runs(line: &[u8], place: Place, text: &[u8], from: usize, end: usize) -> Place {
-    let mut past = place;
-    let mut at = from;
-    while at < end {
-        let Read::To {
-            place: next,
-            at: after,
-        } = tag_run(line, past, text, at)
-        else {
-            return Place::Missing;
-        };
-        if after <= at {
-            return Place::Missing;
+impl<'a> Reading<'a> {
+    // Tests whether the text has been read up to an offset.
+    pub(crate) fn ends(&self, end: usize) -> Result<(), Fault> {
+        check(end <= self.at)
+    }
+
+    // Reads a run of selectors.
+    pub(crate) fn selectors(&mut self, run: PresentationSelectors) -> Result<(), Fault> {
+        self.line.same_selectors(run)?;
+        self.at = run.end;
+        Ok(())
+    }
+
+    // Reads a letter, a character and its selectors.
+    fn character(&mut self, letter: u8, ch: u32, run: PresentationSelectors) -> Result<(), Fault> {
+        self.line.same_character(letter, ch, run)?;
+        self.at = run.end;
+        Ok(())
+    }
+
+    // Reads a letter and selectors.
+    fn mark_and_selectors(&mut self, letter: u8, run: PresentationSelectors) -> Result<(), Fault> {
+        self.line.mark(letter)?;
+        self.selectors(run)
+    }
+
+    // Reads a run of tags with its selectors.
+    fn tag_run(&mut self) -> Result<(), Fault> {
+        match consume_emoji_tag_run(self.text, self.at) {
+            Some(
+                EmojiTagRun {
+                    tags_end,
+                    selectors: run,
+                },
+            ) => {
+                let tags = self.text.get(self.at..tags_end).ok_or(Fault::Differs)?;
+                self.line.mark(b'r')?;
+                self.line.same_bytes(tags)?;
+                self.selectors(run)
+            }
+            None => Err(Fault::Differs),
         }
-        past = Place::Past(next);
-        at = after;
     }
-    past
-}
 
-// Matches a modification.
-fn modification(line: &[u8], place: Place, text: &[u8], at: usize) -> Read {
-    match consume_emoji_modification(text, at) {
-        EmojiModification::EmojiModifier {
-            modifier,
-            selectors: run,
-        } => read_to(character(line, place, b'm', modifier, run), run.end),
-        EmojiModification::EnclosingKeycap { selectors: run } => read_to(
-            mark_and_selectors(line, place, b'k', run),
-            run.end,
-        ),
-        EmojiModification::TagModifier { end } => read_to(
-            tag_runs(line, mark(line, place, b'g'), text, at, end),
+    // Reads a modification.
+    fn modification(&mut self) -> Result<(), Fault> {
+        match consume_emoji_modification(self.text, self.at) {
+            Some(
+                EmojiModification::EmojiModifier {
+                    modifier,
+                    selectors: run,
+                },
+            ) => self.character(b'm', modifier, run),
+            Some(EmojiModification::EnclosingKeycap { selectors: run }) => {
+                self.mark_and_selectors(b'k', run)
+            }
+            Some(EmojiModification::TagModifier { end }) => {
+                self.line.mark(b'g')?;
+                read_parts(self, end, |reading| reading.tag_run())?;
+                self.at = end;
+                Ok(())
+            }
+            None => Err(Fault::Differs),
+        }
+    }
+
+    // Reads a stem.
+    fn stem(&mut self, found: Option<EmojiStem>) -> Result<(), Fault> {
+        match found {
+            Some(
+                EmojiStem::SingletonBase {
+                    base,
+                    selectors: run,
+                },
+            ) => self.character(b'b', base, run),
+            Some(
+                EmojiStem::Flag {
+                    first_ri,
+                    after_first_ri,
+                    second_ri,
+                    after_second_ri,
+                },
+            ) => {
+                self.character(b'f', first_ri, after_first_ri)?;
+                self.character(b',', second_ri, after_second_ri)
+            }
+            None => Err(Fault::Differs),
+        }
+    }
+
+    // Reads a unit: a stem and its modifications.
+    pub(crate) fn unit(&mut self) -> Result<(), Fault> {
+        let EmojiLike {
+            stem: found,
+            modifiers_start,
             end,
-        ),
-        EmojiModification::NoModification => Read::Apart,
+        } = consume_emoji_like(self.text, self.at);
+        self.stem(found)?;
+        self.at = modifiers_start;
+        read_parts(self, end, |reading| reading.modification())?;
+        self.at = end;
+        Ok(())
     }
-}
 
-// Matches the modifications from one offset up to another.
-fn modifications(line: &[u8], place: Place, text: &[u8], from: usize, end: usize) -> Place {
-    let mut past = place;
-    let mut at = from;
-    while at < end {
-        let Read::To {
-            place: next,
-            at: after,
-        } = modification(line, past, text, at)
-        else {
-            return Place::Missing;
-        };
-        if after <= at {
-            return Place::Missing;
+    // Reads a link with the unit that it joins, or a link without a unit.
+    fn part(&mut self, item_end: usize) -> Result<(), Fault> {
+        match consume_sequence_part(self.text, self.at, item_end) {
+            Some(SequencePart::JoiningLink(run)) => {
+                self.mark_and_selectors(b'j', run)?;
+                self.unit()
+            }
+            Some(SequencePart::LeftOverLink(run)) => self.mark_and_selectors(b'z', run),
+            None => Err(Fault::Differs),
         }
-        past = Place::Past(next);
-        at = after;
     }
-    past
-}
 
-// Matches a stem.
-fn stem(line: &[u8], place: Place, found: EmojiStem) -> Place {
-    match found {
-        EmojiStem::SingletonBase {
-            base,
-            selectors: run,
-        } => { character(line, place, b'b', base, run) }
-        EmojiStem::Flag {
-            first_ri,
-            after_first_ri,
-            second_ri,
-            after_second_ri,
-        } => character(
-            line,
-            character(line, place, b'f', first_ri, after_first_ri),
-            b',',
-            second_ri,
-            after_second_ri,
-        ),
-        EmojiStem::NoStem => Place::Missing,
+    // Reads the links and joined units up to the end of an item.
+    pub(crate) fn parts(&mut self, item_end: usize) -> Result<(), Fault> {
+        read_parts(self, item_end, |reading| reading.part(item_end))
     }
-}
-
-// Matches a unit.
-pub(crate) fn unit(line: &[u8], place: Place, text: &[u8], at: usize) -> Read {
-    let EmojiLike {
-        stem: found,
-        modifiers_start,
-        end,
-    } = consume_emoji_like(text, at);
-    let past = stem(line, place, found);
-    read_to(modifications(line, past, text, modifiers_start, end), end)
-}
-
-// Matches a link with the unit that it joins, or a link without a unit.
-fn part(line: &[u8], place: Place, text: &[u8], at: usize, item_end: usize) -> Read {
-    match consume_sequence_part(text, at, item_end) {
-        SequencePart::JoiningLink(run) => unit(
-            line,
-            mark_and_selectors(line, place, b'j', run),
-            text,
-            run.end,
-        ),
-        SequencePart::LeftOverLink(run) => read_to(
-            mark_and_selectors(line, place, b'z', run),
-            run.end,
-        ),
-        SequencePart::NoPart => Read::Apart,
-    }
-}
-
-// Matches the links and joined units from an offset up to the end of an item.
-pub(crate) fn parts(line: &[u8], place: Place, text: &[u8], from: usize, item_end: usize) -> Place {
-    let mut past = place;
-    let mut at = from;
-    while at < item_end {
-        let Read::To {
-            place: next,
-            at: after,
-        } = part(line, past, text, at, item_end)
-        else {
-            return Place::Missing;
-        };
-        if after <= at {
-            return Place::Missing;
-        }
-        past = Place::Past(next);
-        at = after;
-    }
-    past
 }

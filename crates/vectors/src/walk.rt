@@ -2,244 +2,89 @@
 // `item_file` decide what a line must be. The checksum shows a changed digit that changes no answer, for example in a
 // code point that no set holds.
 use crate::checksum::adler_32;
-use crate::policy_store::STORE_WORDS;
-use crate::{item_file, item_format, lines, policy_file, policy_format, report};
+use crate::fault::Fault;
+use crate::keyword::Keyword;
+use crate::line::Line;
+use crate::report::{Report, Tally};
 use std::io;
-use std::num::wrapping_add_u64;
 
-// The format of a file.
-#[derive(Clone, Copy)]
-pub enum Form {
-    Policy,
-    Items,
+// A file of stored answers: its grammar, and what its later lines need of its earlier ones.
+pub(crate) trait StoredFile {
+    // Tests whether a line with a keyword may follow a line with the keyword `last`.
+    fn may_follow(last: Keyword, keyword: Keyword) -> bool;
+
+    // Replays a line. `line` has what follows the keyword.
+    fn replay_line(&mut self, keyword: Keyword, line: Line<'_>) -> Result<(), Fault>;
 }
 
-// The result of replaying a line.
-#[derive(Clone, Copy)]
-pub enum Outcome {
-    AsStored,
-    Differs,
-    Malformed,
-}
-
-// The largest number of kinds of lines. No line has this kind.
-pub const KINDS: usize = 19;
-
-// The lines replayed so far: the kind of the last line, or `KINDS` if it does not follow its format; the offset of the
-// line that the next lines are about; the number of lines of each kind; and the number of them that differ.
-#[derive(Clone, Copy)]
-pub struct Walked {
-    pub last: usize,
-    pub subject: usize,
-    pub seen: [u64; KINDS],
-    pub differ: [u64; KINDS],
-}
-
-// Returns the result for a line that follows its format.
-pub(crate) fn compared(agrees: bool) -> Outcome {
-    if agrees {
-        Outcome::AsStored
-    } else {
-        Outcome::Differs
+// Counts a line, if lines with its keyword are counted.
+fn count(tallies: &mut [Tally], keyword: Keyword, agrees: bool) {
+    if let Some(tally) = tallies.iter_mut().find(|tally| tally.keyword == keyword) {
+        tally.add(agrees);
     }
 }
 
-// Returns the kind of a line, or `KINDS` if its first word is no keyword.
-fn kind_of(form: Form, line: &[u8]) -> usize {
-    match form {
-        Form::Policy => lines::kind_of(&policy_format::KEYWORDS, line, KINDS),
-        Form::Items => lines::kind_of(&item_format::KEYWORDS, line, KINDS),
+// Replays a line after a line with the keyword `last`, and counts it. Returns its keyword, and whether it is as stored.
+fn replay_line<F: StoredFile>(
+    file: &mut F,
+    last: Keyword,
+    bytes: &[u8],
+) -> Result<(Keyword, bool), Fault> {
+    let mut line = Line::new(bytes);
+    let keyword = line.keyword().ok_or(Fault::Malformed)?;
+    if !F::may_follow(last, keyword) {
+        return Err(Fault::Malformed);
+    }
+    match file.replay_line(keyword, line) {
+        Ok(()) => Ok((keyword, true)),
+        Err(Fault::Differs) => Ok((keyword, false)),
+        Err(Fault::Malformed) => Err(Fault::Malformed),
     }
 }
 
-// Returns the line at an offset, if the text has this offset.
-fn line_of(text: &[u8], at: usize) -> &[u8] {
-    if at > text.len() {
-        return &text[0..0];
-    }
-    lines::line_at(text, at)
-}
-
-// Replays the line of this kind at an offset, after the lines replayed so far.
-fn outcome_of(
-    form: Form,
+// Replays the lines of a text, up to the first that does not follow its format. Returns the keyword of the last line,
+// if each line follows its format.
+fn replay_lines<R: Print, F: StoredFile>(
+    report: &Report<'_, R>,
     text: &[u8],
-    at: usize,
-    kind: usize,
-    walked: Walked,
-    store: &mut [u64; STORE_WORDS],
-) -> Outcome {
-    let line = line_of(text, at);
-    let seen = walked.seen;
-    match form {
-        Form::Policy => policy_file::outcome_of(line, walked.last, kind, &seen, store),
-        Form::Items => item_file::outcome_of(
-            line_of(text, walked.subject),
-            line,
-            walked.last,
-            kind,
-            &seen,
-            store,
-        ),
-    }
-}
-
-// Tests whether lines after a line of this kind are about it.
-fn is_subject(form: Form, kind: usize) -> bool {
-    match form {
-        Form::Policy => false,
-        Form::Items => kind == item_format::TEXT,
-    }
-}
-
-// Adds 1 to the count of a kind. The count does not overflow, since a file has few lines.
-fn counted(counts: [u64; KINDS], kind: usize) -> [u64; KINDS] {
-    let mut next = counts;
-    if kind < KINDS {
-        next[kind] = wrapping_add_u64(next[kind], 1);
-    }
-    next
-}
-
-// Adds a line of this kind at an offset.
-fn with_line(form: Form, at: usize, kind: usize, walked: Walked) -> Walked {
-    let subject = if is_subject(form, kind) {
-        at
-    } else {
-        walked.subject
-    };
-    let before = walked.seen;
-    let seen = counted(before, kind);
-    let differ = walked.differ;
-    Walked {
-        last: kind,
-        subject,
-        seen,
-        differ,
-    }
-}
-
-// Adds a difference in a line of this kind.
-fn with_difference(kind: usize, walked: Walked) -> Walked {
-    let seen = walked.seen;
-    let before = walked.differ;
-    let differ = counted(before, kind);
-    Walked {
-        last: walked.last,
-        subject: walked.subject,
-        seen,
-        differ,
-    }
-}
-
-// Adds a line that does not follow its format.
-fn with_fault(walked: Walked) -> Walked {
-    let seen = walked.seen;
-    let differ = walked.differ;
-    Walked {
-        last: KINDS,
-        subject: walked.subject,
-        seen,
-        differ,
-    }
-}
-
-// Replays the line at an offset, counts it, and writes what is wrong with it.
-fn replay_line(
-    rt: &impl Print,
-    form: Form,
-    name: &str,
-    text: &[u8],
-    at: usize,
-    number: usize,
-    walked: Walked,
-    store: &mut [u64; STORE_WORDS],
-) -> io::Result<Walked> {
-    let kind = kind_of(form, line_of(text, at));
-    match outcome_of(form, text, at, kind, walked, store) {
-        Outcome::AsStored => Ok(with_line(form, at, kind, walked)),
-        Outcome::Differs => {
-            report::say_line(rt, name, number, "differs")?;
-            Ok(with_difference(kind, with_line(form, at, kind, walked)))
-        }
-        Outcome::Malformed => {
-            report::say_line(rt, name, number, "does not follow the format")?;
-            Ok(with_fault(walked))
+    file: &mut F,
+    tallies: &mut [Tally],
+) -> io::Result<Option<Keyword>> {
+    let mut last = Keyword::Comment;
+    for (i, bytes) in text.split_inclusive(|b| *b == b'\n').enumerate() {
+        let line = bytes.strip_suffix(b"\n").unwrap_or(bytes);
+        match replay_line(file, last, line) {
+            Ok((keyword, agrees)) => {
+                if !agrees {
+                    report.say_fault(i + 1, Fault::Differs)?;
+                }
+                count(tallies, keyword, agrees);
+                last = keyword;
+            }
+            Err(fault) => {
+                report.say_fault(i + 1, fault)?;
+                return Ok(None);
+            }
         }
     }
+    Ok(Some(last))
 }
 
-// Replays the lines of a text, up to the first that does not follow its format.
-fn replay_lines(
-    rt: &impl Print,
-    form: Form,
-    name: &str,
+// Replays a text, and writes the counts if each line follows its format.
+pub(crate) fn replay<R: Print, F: StoredFile>(
+    report: &Report<'_, R>,
     text: &[u8],
-    store: &mut [u64; STORE_WORDS],
-) -> io::Result<Walked> {
-    let mut walked = Walked {
-        last: lines::COMMENT,
-        subject: 0,
-        seen: [0u64; KINDS],
-        differ: [0u64; KINDS],
-    };
-    let mut at = 0;
-    let mut number = 0;
-    while at < text.len() {
-        number += 1;
-        walked = replay_line(rt, form, name, text, at, number, walked, store)?;
-        if walked.last == KINDS {
-            return Ok(walked);
-        }
-        at = lines::next_line(text, at);
-    }
-    Ok(walked)
-}
-
-// Writes the counts of each kind of line. The last kind is the end.
-fn say_counts(
-    rt: &impl Print,
-    name: &str,
-    text: &[u8],
-    keywords: &[u8],
-    end: usize,
-    walked: Walked,
+    file: &mut F,
+    tallies: &mut [Tally],
 ) -> io::Result<()> {
-    if walked.last != end {
-        report::say_file(rt, name, "has no line `end`")?;
-    }
-    if !lines::is_ended(text) {
-        report::say_file(rt, name, "does not end with a line feed")?;
-    }
-    let seen = walked.seen;
-    let differ = walked.differ;
-    report::say_kinds(rt, name, keywords, end, &seen, &differ)?;
-    report::say_total(rt, name, end, &seen, &differ, adler_32(text))
-}
-
-// Replays a text, and writes the counts if each line follows the format.
-pub(crate) fn replay(rt: &impl Print, form: Form, name: &str, text: &[u8]) -> io::Result<()> {
-    let mut store = [0u64; STORE_WORDS];
-    let walked = replay_lines(rt, form, name, text, &mut store)?;
-    if walked.last == KINDS {
+    let Some(last) = replay_lines(report, text, file, tallies)? else {
         return Ok(());
+    };
+    if last != Keyword::End {
+        report.say("has no line `end`")?;
     }
-    match form {
-        Form::Policy => say_counts(
-            rt,
-            name,
-            text,
-            &policy_format::KEYWORDS,
-            policy_format::END,
-            walked,
-        ),
-        Form::Items => say_counts(
-            rt,
-            name,
-            text,
-            &item_format::KEYWORDS,
-            item_format::END,
-            walked,
-        ),
+    if text.last() != Some(&b'\n') {
+        report.say("does not end with a line feed")?;
     }
+    report.say_tallies(tallies, adler_32(text))
 }

@@ -9,46 +9,33 @@ use Rattle.base.proofs.Words.{length_word_bytes}
 use Rattle.base.proofs.Numbers.{bytes_of_drop, length_bytes_of_lem, word_room}
 use Rattle.base.proofs.put_numbers.Goals as goal
 
-pub loop-i-init : goal.loop-i-init
-loop-i-init c =
+pub loop-number-init : goal.loop-number-init
+loop-number-init c =
     let x = c.args in
     let ws = x.numbers.now in
-    (omega arith, begin (bytes_of ws) x.start x.out.now (omega (arith, c.requires, length_bytes_of_lem ws)))
+    begin (bytes_of ws) x.start x.out.now (omega (arith, c.requires, length_bytes_of_lem ws))
 
 pub put_number-requires : goal.put_number-requires
 put_number-requires c =
-    let l = c.loop-i in
+    let l = c.loop-number in
     let x = c.args in
-    let r = word_room x.numbers.now x.out.now l.out x.start l.at l.i (omega arith) l.invariant.1 in
-    omega arith
+    word_room x.numbers.now x.out.now l.out x.start l.at l.number-index c.loop-number-test.true l.invariant
 
-pub overflow_add-at : goal.overflow_add-at
-overflow_add-at c =
-    let l = c.loop-i in
-    let x = c.args in
-    let r = word_room x.numbers.now x.out.now l.out x.start l.at l.i (omega arith) l.invariant.1 in
-    omega arith
-
-pub loop-i-preserved : goal.loop-i-preserved
-loop-i-preserved c =
-    let l = c.loop-i in
+pub loop-number-preserved : goal.loop-number-preserved
+loop-number-preserved c =
+    let l = c.loop-number in
     let x = c.args in
     let ws = x.numbers.now in
-    let n = get_or ws l.i 0 in
+    let n = get_or ws l.number-index 0 in
     let w : PutAt l.out l.at (word_bytes n) c.put_number.new.out (l.at + 8) =
-    record { ends = ap (λ (k : ℕ). l.at + k) (sym (length_word_bytes n)); bytes = c.put_number.ensures } in (
-      omega arith,
-      put (bytes_of ws) x.start x.out.now _ _ l.invariant.1 w (bytes_of_drop ws l.i (omega arith)),
-    )
-
-pub shape_of-out : goal.shape_of-out
-shape_of-out c = c.loop-i.invariant.1.same
+    record { ends = ap (λ (k : ℕ). l.at + k) (sym (length_word_bytes n)); bytes = c.put_number.ensures } in
+    put (bytes_of ws) x.start x.out.now _ _ l.invariant w (bytes_of_drop ws l.number-index c.loop-number-test.true)
 
 pub returns : goal.returns
 unfolding bytes_of
 returns c =
-    let l = c.loop-i in
+    let l = c.loop-number in
     let x = c.args in
     let ws = x.numbers.now in
-    (finish (bytes_of ws) x.start x.out.now (bytes_of (drop l.i ws)) l.invariant.1
-    (ap bytes_of (drop_of_length-le ws {i = l.i} (omega arith)))).bytes
+    (finish (bytes_of ws) x.start x.out.now (bytes_of (drop l.number-index ws)) l.invariant
+    (ap bytes_of (drop_of_length-le ws {i = l.number-index} (omega (arith, c.loop-number-test.false))))).bytes

@@ -1,13 +1,8 @@
--- `base::put_numbers` meets its contract. The loop's invariant: the bytes of the first `i` numbers are written.
-use Prim.Native.Nat.{◌-◌, ◌≤◌}
-use lib.ListN.{drop, length}
+-- `base::put_numbers` meets its contract. The loop's invariant: the bytes of the numbers so far are written.
+use lib.ListN.{drop}
 use Rattle.base.proofs.Writer.{Writing}
 use Rattle.base.specs.Words.{bytes_of}
 use Rattle.base.proofs.put_numbers.Given as goal
 
-abbrev pub invariant-loop-i : goal.invariant-loop-i
-invariant-loop-i l = (l.i ≤ length l.numbers) × Writing (bytes_of l.numbers) l.start l.initial.out (bytes_of (drop l.i l.numbers)) l.out
-    l.at
-
-abbrev pub decreases-loop-i : goal.decreases-loop-i
-decreases-loop-i l = length l.numbers - l.i
+abbrev pub invariant-loop-number : goal.invariant-loop-number
+invariant-loop-number l = Writing (bytes_of l.numbers) l.fn.start l.fn.out (bytes_of (drop l.number-index l.numbers)) l.out l.at

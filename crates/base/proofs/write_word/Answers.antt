@@ -1,31 +1,15 @@
--- `base::write_word` meets its contract: without room it writes nothing, and with room `put_word` writes.
-use mathlib.Core.Path.{sym, ap, ◌∙◌}
-use mathlib.Core.Bool.{Bool, cond}
-use Prim.Native.Nat.{◌+◌}
-use native.Mathlib.Omega.{arith}
-use lib.ListN.{length}
-use lib.Seq.{sets}
-use borrow.Author.Tests.{le-leb, lt-leb}
-use Rattle.base.specs.Words.{word_bytes}
+-- `base::write_word` meets its contract: std's bytes of a number are its eight bytes (`le_word`).
+use mathlib.Core.Path.{subst, ◌∙◌}
+use mathlib.Core.List.{List}
+use Prim.Native.Nat.{ℕ}
+use Rattle.base.specs.Output.{WritesAt}
+use Rattle.base.specs.Words.{little_endian, word_bytes}
+use Rattle.base.proofs.Words.{le_word}
 use Rattle.base.proofs.write_word.Goals as goal
 
-pub returns-then-out-lt-WORD_BYTES : goal.returns-then-out-lt-WORD_BYTES
-returns-then-out-lt-WORD_BYTES c =
-    let x = c.args in
-    let e = lt-leb (x.at + 8) (length x.out.now) (omega arith) in
-    (sym e, simp e)
-
-pub returns-then-out-at : goal.returns-then-out-at
-returns-then-out-at c =
-    let x = c.args in
-    let e = lt-leb (x.at + 8) (length x.out.now) (omega arith) in
-    (sym e, simp e)
-
 pub returns : goal.returns
+unfolding word_bytes little_endian
 returns c =
     let x = c.args in
-    let e = le-leb (x.at + 8) (length x.out.now) (omega arith) in (
-      sym e,
-      c.put_word.ensures ∙ ap (λ (t : Bool). cond t (sets x.out.now x.at (word_bytes x.x)) x.out.now)
-          (sym e),
-    )
+    let w = c.write_bytes in
+    subst (λ (b : List ℕ). WritesAt b x.out.now x.at w.result w.new.out) (c.to_le_bytes.ensures ∙ le_word x.x) w.ensures

@@ -6,16 +6,16 @@ use Rattle.cutting.specs.Helpers.{class_may_begin}
 use Rattle.cutting.proofs.Classes.{by_class}
 use Rattle.cutting.proofs.begins_part.Goals as goal
 
-pub returns-in-Char : goal.returns-in-Char
+pub returns-in-Some : goal.returns-in-Some
 unfolding first_may_begin
-returns-in-Char c =
+returns-in-Some c =
     let x = c.args in
-    let k = seen x.text.now x.at (sym c.peek.ensures ∙ c.in-Char.is) in
+    let k = seen x.text.now x.at (sym c.peek.ensures ∙ c.in-Some.is) in
     c.class_may_begin.ensures ∙ ap class_may_begin k.class ∙ sym (by_class _) ∙ ap first_may_begin (sym k.chars_on)
 
-pub returns-in-NoChar : goal.returns-in-NoChar
+pub returns-in-None : goal.returns-in-None
 unfolding first_may_begin
-returns-in-NoChar c =
+returns-in-None c =
     let x = c.args in
-    let k = unseen x.text.now x.at (sym c.peek.ensures ∙ c.in-NoChar.is) in
+    let k = unseen x.text.now x.at (sym c.peek.ensures ∙ c.in-None.is) in
     ap first_may_begin (sym k.chars_none)

@@ -12,17 +12,17 @@ pub take_selector-requires : goal.take_selector-requires
 take_selector-requires c = (c.requires.0, c.requires.2)
 
 pub take_other-requires : goal.take_other-requires
-take_other-requires c = (c.requires.0, c.requires.1, sym c.from_selector.ensures ∙ c.in-NoSelector.is, c.requires.2, c.requires.3)
+take_other-requires c = (c.requires.0, c.requires.1, sym c.from_selector.ensures ∙ c.in-None.is, c.requires.2, c.requires.3)
 
-pub returns-in-Selector : goal.returns-in-Selector
-returns-in-Selector c =
+pub returns-in-Some : goal.returns-in-Some
+returns-in-Some c =
     let x = c.args in
     let p = policy_of x.policy.now in
     let e = selector_value x.ch _
-    (sym c.from_selector.ensures ∙ c.in-Selector.is) in
+    (sym c.from_selector.ensures ∙ c.in-Some.is) in
     subst (λ (v : ℕ). TakenBy p x.taken.held x.taken.counts (fed_as p (v ∷ [])) x.out.now x.taken.end x.out.now
     c.take_selector.result) (sym e)
     (c.take_selector.ensures p x.out.now)
 
-pub returns-in-NoSelector : goal.returns-in-NoSelector
-returns-in-NoSelector c = c.take_other.ensures
+pub returns-in-None : goal.returns-in-None
+returns-in-None c = c.take_other.ensures

@@ -110,7 +110,7 @@ overflow_add-valid_up_to c =
     (arith, c.requires)) in
     omega (
       arith,
-      c.minus.ensures,
+      c.saturating_sub.ensures,
       c.if-len-piece.false,
       valid_inside c.scan_piece-scan.ensures,
       len_fits f b i r,
@@ -128,7 +128,7 @@ returns-then-not-left c =
     ends-called (piece_3 f b x.out.now i r c.if-state.false
     c.if-len-piece.false
     c.scan_piece-scan.ensures.valid_is
-    c.left_after-left.ensures (not-true _ c.if-not-left.true) c.minus.ensures)
+    c.left_after-left.ensures (not-true _ c.if-not-left.true) c.saturating_sub.ensures)
 
 pub returns-then-out-wanted : goal.returns-then-out-wanted
 returns-then-out-wanted c =

@@ -24,18 +24,18 @@ loop-presentation-smaller c =
     omega (
       arith,
       selectors_room c.loop-presentation.invariant (sym
-          c.selector_at.ensures ∙ c.in-Selector.is),
+          c.selector_at.ensures ∙ c.in-Some.is),
     )
 
 pub loop-presentation-preserved : goal.loop-presentation-preserved
 loop-presentation-preserved c =
     selectors_on c.loop-presentation.invariant (sym
-    c.selector_at.ensures ∙ c.in-Selector.is) c.take_selector-taken.ensures
+    c.selector_at.ensures ∙ c.in-Some.is) c.take_selector-taken.ensures
 
-pub returns-in-NoSelector : goal.returns-in-NoSelector
-returns-in-NoSelector c =
+pub returns-in-None : goal.returns-in-None
+returns-in-None c =
     record {
       so_far = c.loop-presentation.invariant;
       none_more = sym c.selector_at.ensures
-          ∙ c.in-NoSelector.is;
+          ∙ c.in-None.is;
     }

@@ -1,6 +1,6 @@
 -- `formatting::formatted_fits` meets its contract: a formatted text has at most four times the bytes of the text.
-use mathlib.Core.Path.{ap, sym}
-use Prim.Native.Nat.{ℕ}
+use mathlib.Core.Path.{ap, sym, ◌∙◌}
+use Prim.Native.Nat.{ℕ, ◌/◌}
 use native.Mathlib.Omega.{arith}
 use lib.Dec.{leb}
 use lib.ListN.{length}
@@ -15,10 +15,11 @@ returns-then-text-room c =
     let x = c.args in
     let p = policy_of x.policy.now in
     let t = x.text.now in
-    sym (le-leb (length (formatted_from p t 0)) x.room (omega (arith, four_times_at p t 0, c.if-text-room.true)))
+    le-leb (length t) (x.room / 4) c.if-text-room.true
+    ∙ sym (le-leb (length (formatted_from p t 0)) x.room (omega (arith, four_times_at p t 0, c.if-text-room.true)))
 
-pub survey_text-len-requires : goal.survey_text-len-requires
-survey_text-len-requires c = c.requires
+pub survey_text-requires : goal.survey_text-requires
+survey_text-requires c = c.requires
 
-pub returns : goal.returns
-returns c = ap (λ (n : ℕ). leb n c.args.room) c.survey_text-len.ensures.len
+pub returns-else-text-room : goal.returns-else-text-room
+returns-else-text-room c = ap (λ (n : ℕ). leb n c.args.room) c.survey_text.ensures.len

@@ -12,30 +12,30 @@ pub bounds-out-at : goal.bounds-out-at
 bounds-out-at c =
     let x = c.args in
     let q = c.requires in
-    let n = three_bytes x.selector _ c.in-Selector.is in
+    let n = three_bytes x.selector _ c.in-Some.is in
     omega (arith, q, n)
 
-pub bounds-out-at-in-Selector : goal.bounds-out-at-in-Selector
-bounds-out-at-in-Selector c =
+pub bounds-out-at-in-Some : goal.bounds-out-at-in-Some
+bounds-out-at-in-Some c =
     let x = c.args in
     let q = c.requires in
-    let n = three_bytes x.selector _ c.in-Selector.is in
+    let n = three_bytes x.selector _ c.in-Some.is in
     omega (arith, q, n, length-set x.out.now x.at 0xEF)
 
-pub bounds-out-at-in-Selector-2 : goal.bounds-out-at-in-Selector-2
-bounds-out-at-in-Selector-2 c =
+pub bounds-out-at-in-Some-2 : goal.bounds-out-at-in-Some-2
+bounds-out-at-in-Some-2 c =
     let x = c.args in
     let q = c.requires in
-    let n = three_bytes x.selector _ c.in-Selector.is in
+    let n = three_bytes x.selector _ c.in-Some.is in
     omega (arith, q, n, length-set x.out.now x.at 0xEF, length-set (set x.out.now x.at 0xEF) (x.at + 1) 0xB8)
 
-pub returns-in-NoSelector : goal.returns-in-NoSelector
-returns-in-NoSelector c =
+pub returns-in-None : goal.returns-in-None
+returns-in-None c =
     let x = c.args in
-    let n = no_bytes x.selector c.in-NoSelector.is in
+    let n = no_bytes x.selector c.in-None.is in
     record { ends = omega (arith, ap length n); bytes = ap (sets x.out.now x.at) n }
 
-pub returns-in-Selector : goal.returns-in-Selector
-returns-in-Selector c =
+pub returns-in-Some : goal.returns-in-Some
+returns-in-Some c =
     let x = c.args in
-    selector_put x.out.now x.at _ x.selector (ap selector_bytes c.in-Selector.is ∙ c.last_byte.ensures)
+    selector_put x.out.now x.at _ x.selector (ap selector_bytes c.in-Some.is ∙ c.last_byte.ensures)

@@ -1,6 +1,5 @@
 -- `formatting::surely_fits` meets its contract: by the factor four, or by five halves.
 use mathlib.Core.Path.{sym, ◌∙◌}
-use mathlib.Core.Bool.{true≢false}
 use native.Mathlib.Omega.{arith}
 use lib.ListN.{length}
 use Rattle.base.proofs.Sums.{capped-held}
@@ -15,14 +14,11 @@ returns-then-text-room c =
     let x = c.args in
     λ _. omega (arith, four_times_at (policy_of x.policy.now) x.text.now 0, c.if-text-room.true)
 
-pub returns-then-room-default_room : goal.returns-then-room-default_room
-returns-then-room-default_room c = λ e. absurd (true≢false (sym e))
-
-pub returns : goal.returns
+pub returns-then-default_room-room : goal.returns-then-default_room-room
 unfolding default_room
-returns c =
+returns-then-default_room-room c =
     let t = c.args.text.now in
     let d = c.default_room.ensures in
     λ e.
     let b = format_bound c.args.policy.now (sym c.ascii_keys_bare.ensures ∙ e) t in
-    omega (arith, b, d, capped-held (default_room (length t)) (omega (arith, c.requires)), c.if-room-default_room.false)
+    omega (arith, b, d, capped-held (default_room (length t)) (omega (arith, c.requires)), c.if-default_room-room.true)

@@ -13,33 +13,33 @@ pub returns-in-Modifier : goal.returns-in-Modifier
 returns-in-Modifier c =
     let x = c.args in
     let k = seen x.text.now x.at
-    (sym c.peek.ensures ∙ c.in-Char.is) in
+    (sym c.peek.ensures ∙ c.in_ok-first.was) in
     modifier_on k c.in-Modifier.is c.consume_presentation_selectors-selectors.ensures
 
 pub returns-in-Keycap : goal.returns-in-Keycap
 returns-in-Keycap c =
     let x = c.args in
     let k = seen x.text.now x.at
-    (sym c.peek.ensures ∙ c.in-Char.is) in
+    (sym c.peek.ensures ∙ c.in_ok-first.was) in
     keycap-on k c.in-Keycap.is c.consume_presentation_selectors-selectors-in-Keycap.ensures
 
 pub returns-in-Tag : goal.returns-in-Tag
 returns-in-Tag c =
     let x = c.args in
     let k = seen x.text.now x.at
-    (sym c.peek.ensures ∙ c.in-Char.is) in
-    tags_on k c.in-Tag.is c.consume_emoji_tag_runs-tags_end.ensures.end
+    (sym c.peek.ensures ∙ c.in_ok-first.was) in
+    tags_on k c.in-Tag.is c.consume_emoji_tag_runs-tags.ensures.end
 
 pub returns-in_default : goal.returns-in_default
 returns-in_default c =
     let x = c.args in
-    let k = seen x.text.now x.at (sym c.peek.ensures ∙ c.in-Char.is) in
+    let k = seen x.text.now x.at (sym c.peek.ensures ∙ c.in_ok-first.was) in
     modification_off k (seen_arm k is_modification_class false (0 ∷ 1 ∷ 2 ∷ 4 ∷ 7 ∷ []) (refl, refl, refl, tt, refl, tt, tt, refl)
     (opened c.in_default.in_default-own.keys4))
     (seen_arm k is_tag_class false (0 ∷ 1 ∷ 2 ∷ 4 ∷ 7 ∷ []) (refl, refl, refl, tt, refl, tt, tt, refl)
     (opened c.in_default.in_default-own.keys4))
 
-pub returns-in-NoChar : goal.returns-in-NoChar
-returns-in-NoChar c =
+pub returns-in_err-first : goal.returns-in_err-first
+returns-in_err-first c =
     let x = c.args in
-    modification_none (unseen x.text.now x.at (sym c.peek.ensures ∙ c.in-NoChar.is))
+    c.from_residual.ensures ∙ modification_none (unseen x.text.now x.at (sym c.peek.ensures ∙ c.in_err-first.was))

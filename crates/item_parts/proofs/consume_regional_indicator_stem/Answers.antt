@@ -12,24 +12,22 @@ pub returns-in-Ri : goal.returns-in-Ri
 returns-in-Ri c =
     let x = c.args in
     let r = c.consume_presentation_selectors-after_first_ri in
-    let k = seen x.text.now r.result.end
-    (sym c.peek.ensures ∙ c.in-Char.is) in
+    let k = seen x.text.now r.result.end (sym c.peek.ensures ∙ c.in-Some.is) in
     ri-flag x.text.now x.at r.ensures k x.first_ri c.in-Ri.is
     c.consume_presentation_selectors-after_second_ri.ensures
+
+pub returns-in_default-class : goal.returns-in_default-class
+returns-in_default-class c =
+    let x = c.args in
+    let r = c.consume_presentation_selectors-after_first_ri in
+    let k = seen x.text.now r.result.end (sym c.peek.ensures ∙ c.in-Some.is) in
+    ri-single x.text.now x.at r.ensures k x.first_ri
+    (seen_arm k is_ri_class false (0 ∷ 1 ∷ 3 ∷ 4 ∷ 5 ∷ 6 ∷ 7 ∷ []) (refl, refl, tt, refl, refl, refl, refl, refl)
+    (opened c.in_default-class.in_default-class-own.keys2))
 
 pub returns-in_default : goal.returns-in_default
 returns-in_default c =
     let x = c.args in
     let r = c.consume_presentation_selectors-after_first_ri in
-    let k = seen x.text.now r.result.end
-    (sym c.peek.ensures ∙ c.in-Char.is) in
-    ri-single x.text.now x.at r.ensures k x.first_ri
-    (seen_arm k is_ri_class false (0 ∷ 1 ∷ 3 ∷ 4 ∷ 5 ∷ 6 ∷ 7 ∷ []) (refl, refl, tt, refl, refl, refl, refl, refl)
-    (opened c.in_default.in_default-own.keys2))
-
-pub returns-in-NoChar : goal.returns-in-NoChar
-returns-in-NoChar c =
-    let x = c.args in
-    let r = c.consume_presentation_selectors-after_first_ri in
     ri_alone x.text.now x.at r.ensures
-    (unseen x.text.now r.result.end (sym c.peek.ensures ∙ c.in-NoChar.is)) x.first_ri
+    (unseen x.text.now r.result.end (sym c.peek.ensures ∙ c.in_default.is)) x.first_ri

@@ -13,47 +13,42 @@ returns-then-item_end-at c =
     let x = c.args in
     part-past x.text.now x.item_end x.at c.if-item_end-at.true
 
+pub returns-in_err-selectors : goal.returns-in_err-selectors
+returns-in_err-selectors c =
+    let x = c.args in
+    c.from_residual.ensures ∙ part_none x.text.now x.item_end x.at c.if-item_end-at.false
+    (sym c.in_err-selectors.was ∙ c.consume_zwj_link.ensures)
+
 pub returns-then-item_end-selectors : goal.returns-then-item_end-selectors
 returns-then-item_end-selectors c =
     let x = c.args in
     part-last x.text.now x.item_end x.at c.if-item_end-at.false
-    (sym c.in-Link.is ∙ c.consume_zwj_link.ensures)
+    (sym c.in_ok-selectors.was ∙ c.consume_zwj_link.ensures)
     c.if-item_end-selectors.true
 
 pub returns-in-Ri : goal.returns-in-Ri
 returns-in-Ri c =
     let x = c.args in
-    let k = seen x.text.now c.in-Link.selectors.end
-    (sym c.peek.ensures ∙ c.in-Char.is) in
-    part-joins x.text.now x.item_end x.at
-    c.if-item_end-at.false
-    (sym c.in-Link.is ∙ c.consume_zwj_link.ensures)
+    let k = seen x.text.now c.in_ok-selectors.field-0.selectors.end (sym c.peek.ensures ∙ c.in-Some.is) in
+    part-joins x.text.now x.item_end x.at c.if-item_end-at.false
+    (sym c.in_ok-selectors.was ∙ c.consume_zwj_link.ensures)
     c.if-item_end-selectors.false k
     (seen_arm k is_emoji_class true (2 ∷ 3 ∷ 4 ∷ []) (tt, tt, refl, refl, refl, tt, tt, tt) c.in-Ri.in-Ri-own.keys1)
+
+pub returns-in_default-class : goal.returns-in_default-class
+returns-in_default-class c =
+    let x = c.args in
+    let k = seen x.text.now c.in_ok-selectors.field-0.selectors.end (sym c.peek.ensures ∙ c.in-Some.is) in
+    part-left-over x.text.now x.item_end x.at c.if-item_end-at.false
+    (sym c.in_ok-selectors.was ∙ c.consume_zwj_link.ensures)
+    c.if-item_end-selectors.false k
+    (seen_arm k is_emoji_class false (0 ∷ 1 ∷ 5 ∷ 6 ∷ 7 ∷ []) (refl, refl, tt, tt, tt, refl, refl, refl)
+    (opened c.in_default-class.in_default-class-own.keys2))
 
 pub returns-in_default : goal.returns-in_default
 returns-in_default c =
     let x = c.args in
-    let k = seen x.text.now c.in-Link.selectors.end
-    (sym c.peek.ensures ∙ c.in-Char.is) in
-    part-left-over x.text.now x.item_end x.at
-    c.if-item_end-at.false
-    (sym c.in-Link.is ∙ c.consume_zwj_link.ensures)
-    c.if-item_end-selectors.false k
-    (seen_arm k is_emoji_class false (0 ∷ 1 ∷ 5 ∷ 6 ∷ 7 ∷ []) (refl, refl, tt, tt, tt, refl, refl, refl)
-    (opened c.in_default.in_default-own.keys2))
-
-pub returns-in-NoChar : goal.returns-in-NoChar
-returns-in-NoChar c =
-    let x = c.args in
-    part-before-none x.text.now x.item_end x.at
-    c.if-item_end-at.false
-    (sym c.in-Link.is ∙ c.consume_zwj_link.ensures)
+    part-before-none x.text.now x.item_end x.at c.if-item_end-at.false
+    (sym c.in_ok-selectors.was ∙ c.consume_zwj_link.ensures)
     c.if-item_end-selectors.false
-    (unseen x.text.now c.in-Link.selectors.end (sym c.peek.ensures ∙ c.in-NoChar.is))
-
-pub returns-in-NoLink : goal.returns-in-NoLink
-returns-in-NoLink c =
-    let x = c.args in
-    part_none x.text.now x.item_end x.at c.if-item_end-at.false
-    (sym c.in-NoLink.is ∙ c.consume_zwj_link.ensures)
+    (unseen x.text.now c.in_ok-selectors.field-0.selectors.end (sym c.peek.ensures ∙ c.in_default.is))

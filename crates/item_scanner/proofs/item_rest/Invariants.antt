@@ -6,8 +6,8 @@ use lib.ListN.{length}
 use Rattle.item_scanner.proofs.Cursor.{Reading}
 use Rattle.item_scanner.proofs.item_rest.Given as goal
 
-abbrev pub invariant-loop-class : goal.invariant-loop-class
-invariant-loop-class l = Reading l.text l.from l.initial.state l.at l.state l.tags_complete
+abbrev pub invariant-loop-next : goal.invariant-loop-next
+invariant-loop-next l = Reading l.text l.from l.initial.state l.at l.state l.tags_complete
 
-abbrev pub decreases-loop-class : goal.decreases-loop-class
-decreases-loop-class l = length l.text - l.at
+abbrev pub decreases-loop-next : goal.decreases-loop-next
+decreases-loop-next l = length l.text - l.at

@@ -1,6 +1,5 @@
 -- `membership_flips::is_tip` meets its contract.
-use mathlib.Core.Path.{ap, refl, sym, ◌∙◌}
-use mathlib.Core.Bool.{Bool, ◌||◌}
+use mathlib.Core.Path.{refl, ◌∙◌}
 use Prim.Native.Nat.{◌/◌, ◌%◌}
 use lib.Dec.{eqb}
 use Rattle.policy.specs.Policy.{entry_rule}
@@ -9,21 +8,16 @@ use Rattle.membership_flips.specs.Pass.{flagged, tip_test}
 use Rattle.membership_flips.proofs.Listing.{tip_is, unused}
 use Rattle.membership_flips.proofs.is_tip.Goals as goal
 
-pub returns-then-not-either : goal.returns-then-not-either
+pub returns-then-not-emoji : goal.returns-then-not-emoji
 unfolding tip_test
-returns-then-not-either c =
+returns-then-not-emoji c =
     let x = c.args in
     let p = policy_of x.policy.now in
     let i = x.n / 4 in
     let k = eqb (x.n / 2 % 2) 1 in
     let a = eqb (x.n % 2) 1 in
-    let bare = c.is_flagged-bare in
-    let text = c.is_flagged-text in
-    let emoji = c.is_flagged-emoji in
-    let used = c.either-2.ensures ∙ ap (λ (b : Bool). bare.result || b) c.either.ensures in
-    let none = sym used ∙ c.if-not-either.true in
-    unused (entry_rule p i k) a bare.result text.result emoji.result none
-    ∙ tip_is p i k a (flagged x.flags.now i k) refl bare.ensures text.ensures emoji.ensures
+    unused (entry_rule p i k) a c.if-not-bare.true c.if-not-text.true c.if-not-emoji.true
+    ∙ tip_is p i k a (flagged x.flags.now i k) refl c.is_flagged-bare.ensures c.is_flagged-text.ensures c.is_flagged-emoji.ensures
 
 pub returns : goal.returns
 unfolding tip_test

@@ -14,11 +14,8 @@ use Rattle.membership_flips.proofs.put_tips.Goals as goal
 
 pub loop-n-init : goal.loop-n-init
 loop-n-init c =
-    let x = c.args in (
-      omega arith,
-      begin (rows_bytes tip_numbers (tipping_from (tip_test x.policy.now x.flags.now) 0)) 0 x.table.now
-          (omega (arith, c.requires.1)),
-    )
+    let x = c.args in
+    begin (rows_bytes tip_numbers (tipping_from (tip_test x.policy.now x.flags.now) 0)) 0 x.table.now (omega (arith, c.requires.1))
 
 pub is_tip-wanted-requires : goal.is_tip-wanted-requires
 is_tip-wanted-requires c = (omega arith, c.requires.0)
@@ -33,7 +30,7 @@ put_tip-at-requires c =
           let s = write-on q l.n (omega (arith, c.loop-n-test.true)) c.is_tip-wanted.ensures in
           let r = room (rows_bytes tip_numbers (tipping_from q 0)) 0 x.table.now (rows_bytes tip_numbers (tipping_from q l.n))
           (cond c.is_tip-wanted.result (bytes_of (tip_numbers (membership_at l.n))) [])
-          (rows_bytes tip_numbers (tipping_from q (l.n + 1))) l.invariant.1 s in
+          (rows_bytes tip_numbers (tipping_from q (l.n + 1))) l.invariant s in
           omega (
             arith,
             r,
@@ -46,16 +43,13 @@ pub loop-n-preserved : goal.loop-n-preserved
 loop-n-preserved c =
     let x = c.args in
     let l = c.loop-n in
-    let q = tip_test x.policy.now x.flags.now in (
-      omega (arith, c.loop-n-test.true),
-      put (rows_bytes tip_numbers (tipping_from q 0)) 0 x.table.now (rows_bytes tip_numbers (tipping_from q l.n))
-          (rows_bytes tip_numbers (tipping_from q (l.n + 1))) l.invariant.1 c.put_tip-at.ensures
-          (write-on q l.n (omega (arith, c.loop-n-test.true))
-          c.is_tip-wanted.ensures),
-    )
+    let q = tip_test x.policy.now x.flags.now in
+    put (rows_bytes tip_numbers (tipping_from q 0)) 0 x.table.now (rows_bytes tip_numbers (tipping_from q l.n))
+    (rows_bytes tip_numbers (tipping_from q (l.n + 1))) l.invariant c.put_tip-at.ensures
+    (write-on q l.n (omega (arith, c.loop-n-test.true)) c.is_tip-wanted.ensures)
 
 pub shape_of-table : goal.shape_of-table
-shape_of-table c = c.loop-n.invariant.1.same
+shape_of-table c = c.loop-n.invariant.same
 
 pub returns : goal.returns
 unfolding rows_bytes
@@ -63,5 +57,5 @@ returns c =
     let x = c.args in
     let l = c.loop-n in
     let q = tip_test x.policy.now x.flags.now in
-    finish (rows_bytes tip_numbers (tipping_from q 0)) 0 x.table.now (rows_bytes tip_numbers (tipping_from q l.n)) l.invariant.1
+    finish (rows_bytes tip_numbers (tipping_from q 0)) 0 x.table.now (rows_bytes tip_numbers (tipping_from q l.n)) l.invariant
     (ap (λ (m : List Membership). rows_bytes tip_numbers m) (none_from q l.n (omega (arith, c.loop-n-test.false))))

@@ -3,7 +3,6 @@
 use mathlib.Core.Path.{ap}
 use Prim.Native.Nat.{ℕ}
 use native.Mathlib.Omega.{arith}
-use borrow.Author.Tests.{not-false, not-true}
 use lib.ListN.{drop}
 use Rattle.utf8.specs.Rfc3629.{valid_up_to_of}
 use Rattle.policy.specs.PolicyBytes.{policy_of}
@@ -11,13 +10,13 @@ use Rattle.text_pass.proofs.Passing.{finds_room, finds_some, item_valid}
 use Rattle.mending.proofs.Starting.{next-valid, none_before, none-further}
 use Rattle.mending.proofs.finding_starting.Goals as goal
 
-pub returns-then-not-next : goal.returns-then-not-next
-returns-then-not-next c =
+pub returns-else-next : goal.returns-else-next
+returns-else-next c =
     let x = c.args in
     let n = c.next_finding-next in
-    let m = not-true n.result.present c.if-not-next.true in
+    let m = c.if-next.false in
     let e = (n.ensures.2 m).1 in record {
-      starts = none-further x.offset n.ensures m;
+      starts = rw m (none-further x.offset n.ensures m);
       valid = (
         omega (arith, e, n.ensures.0.advances.inside (omega arith)),
         omega
@@ -25,11 +24,11 @@ returns-then-not-next c =
       );
     }
 
-pub returns : goal.returns
-returns c =
+pub returns-then-next : goal.returns-then-next
+returns-then-next c =
     let x = c.args in
     let n = c.next_finding-next in
-    let m = not-false n.result.present c.if-not-next.false in
+    let m = c.if-next.true in
     let f = (n.ensures.1 m).1 in record {
       starts = none_before x.offset n.ensures m;
       valid = (

@@ -1,4 +1,6 @@
 -- `mending::mend` meets its contract: the refusals come in their order, and then the finding at the offset is mended.
+use Rattle.std.specs.Prelude.{Err}
+use borrow.Author.Rules.{rules}
 use mathlib.Core.Path.{◌≡◌, ap, sym, ◌∙◌}
 use mathlib.Core.List.{List}
 use Prim.Native.Nat.{ℕ, ◌+◌, ◌-◌}
@@ -18,13 +20,15 @@ whole_valid : (t : List ℕ) (end : ℕ) {n : ℕ} → n ≡ valid_up_to_of (tak
     → end + valid_up_to_of (drop end t) ≡ valid_up_to_of t → end + n ≡ valid_up_to_of t
 whole_valid t end e f = ap (λ (k : ℕ). end + k) (rest_valid t end e) ∙ f
 
-pub returns-in-Refused : goal.returns-in-Refused
+pub returns-in_err-first_tests : goal.returns-in_err-first_tests
 unfolding IntakeComesFirst
-returns-in-Refused c =
+returns-in_err-first_tests c =
     let x = c.args in
-    let refused = first-refused x.text.now x.policy.now c.first_tests.ensures c.in-Refused.refusal c.in-Refused.is in
-    ends_as (sym ((comes_first x.text.now x.policy.now c.in-Refused.refusal refused).3 x.offset x.decisions.now
-    x.out.now))
+    let f = c.in_err-first_tests in
+    let r : c.from_residual.result ≡ Err f.field-0.0 = search rules in
+    let refused = first-refused x.text.now x.policy.now c.first_tests.ensures f.field-0.0 f.was in
+    rw r (ends_as (sym ((comes_first x.text.now x.policy.now f.field-0.0 refused).3 x.offset x.decisions.now
+    x.out.now)))
 
 pub slice_bounds-valid_up_to-count : goal.slice_bounds-valid_up_to-count
 slice_bounds-valid_up_to-count c = c.finding_starting-end.ensures.valid.0
@@ -37,7 +41,7 @@ overflow_add-valid_up_to c =
     let x = c.args in
     let t = x.text.now in
     let p = x.policy.now in
-    let f = first-passed t p c.first_tests.ensures c.in_default.is in
+    let f = first-passed t p c.first_tests.ensures c.in_ok-first_tests.was in
     let s = c.finding_starting-end in
     omega (arith, s.ensures.valid, rest_valid t s.result.end c.valid_up_to.ensures, valid_up_to_le t, f.0)
 
@@ -47,7 +51,7 @@ returns-then-valid_up_to-text c =
     let x = c.args in
     let t = x.text.now in
     let p = x.policy.now in
-    let f = first-passed t p c.first_tests.ensures c.in_default.is in
+    let f = first-passed t p c.first_tests.ensures c.in_ok-first_tests.was in
     let s = c.finding_starting-end in
     let v = whole_valid t s.result.end c.valid_up_to.ensures s.ensures.valid.1 in
     ends_as (sym ((comes_first t p _ (not_well_formed t p f.0 f.1 v c.if-valid_up_to-text.true)).3 x.offset x.decisions.now x.out.now))
@@ -57,7 +61,7 @@ returns-then-not-present c =
     let x = c.args in
     let t = x.text.now in
     let p = x.policy.now in
-    let f = first-passed t p c.first_tests.ensures c.in_default.is in
+    let f = first-passed t p c.first_tests.ensures c.in_ok-first_tests.was in
     let s = c.finding_starting-end in
     let v = whole_valid t s.result.end c.valid_up_to.ensures s.ensures.valid.1 in
     let a = all_well_formed t p f.0 f.1 v c.if-valid_up_to-text.false in
@@ -69,7 +73,7 @@ mend_finding-requires c =
     let x = c.args in
     let t = x.text.now in
     let p = x.policy.now in
-    let f = first-passed t p c.first_tests.ensures c.in_default.is in
+    let f = first-passed t p c.first_tests.ensures c.in_ok-first_tests.was in
     let s = c.finding_starting-end in
     let v = whole_valid t s.result.end c.valid_up_to.ensures s.ensures.valid.1 in (
       all_well_formed t p f.0 f.1 v c.if-valid_up_to-text.false,

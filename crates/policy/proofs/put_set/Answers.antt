@@ -11,27 +11,26 @@ loop-i-init c =
     let x = c.args in
     let ws = x.set.bits in
     let six : length ws ≡ 6 = c.well_formed.1.1.0.1.1.0.1.0.1 in
-    (omega arith, six, begin (bytes_of ws) x.start x.out.now c.requires)
+    (six, begin (bytes_of ws) x.start x.out.now c.requires)
 
 pub overflow_add-at : goal.overflow_add-at
 overflow_add-at c =
     let l = c.loop-i in
     let x = c.args in
-    let r = word_room x.set.bits x.out.now l.out x.start l.at l.i (omega arith) l.invariant.2 in
+    let r = word_room x.set.bits x.out.now l.out x.start l.at l.i (omega arith) l.invariant.1 in
     omega arith
 
 pub loop-i-preserved : goal.loop-i-preserved
 loop-i-preserved c =
     let l = c.loop-i in
     let x = c.args in (
-      omega arith,
-      l.invariant.1,
-      word-written x.set.bits x.out.now l.out x.start l.at l.i (omega arith) l.invariant.2 _
+      l.invariant.0,
+      word-written x.set.bits x.out.now l.out x.start l.at l.i (omega arith) l.invariant.1 _
           c.write_word.ensures.1,
     )
 
 pub shape_of-out : goal.shape_of-out
-shape_of-out c = c.loop-i.invariant.2.same
+shape_of-out c = c.loop-i.invariant.1.same
 
 pub returns : goal.returns
 unfolding bytes_of
@@ -39,5 +38,5 @@ returns c =
     let l = c.loop-i in
     let x = c.args in
     let ws = x.set.bits in
-    finish (bytes_of ws) x.start x.out.now (bytes_of (drop l.i ws)) l.invariant.2
+    finish (bytes_of ws) x.start x.out.now (bytes_of (drop l.i ws)) l.invariant.1
     (ap bytes_of (drop_of_length-le ws {i = l.i} (omega arith)))

@@ -28,24 +28,24 @@ old_bit-requires c =
     let x = c.args in
     let m = few-times x.k ((length x.entries.now / 8 + 63) / 64 * 8)
     c.requires.0 in
-    let q = index_below _ (numbers_of x.entries.now) _ (sym c.index_of.ensures ∙ c.in-At.is)
+    let q = index_below _ (numbers_of x.entries.now) _ (sym c.index_of.ensures ∙ c.in-Some-index_of.is)
     in let n = many-numbers x.entries.now in (omega arith, omega arith)
 
-pub returns-in-NoEntry : goal.returns-in-NoEntry
-returns-in-NoEntry c =
+pub returns-in-None : goal.returns-in-None
+returns-in-None c =
     let x = c.args in
     no_entry_bit x.entries.now x.policy.now x.k x.i c.requires.0
-    (sym c.variation_entry.ensures ∙ c.in-NoEntry.is)
+    (sym c.variation_entry.ensures ∙ c.in-None.is)
 
-pub returns-in-At : goal.returns-in-At
-returns-in-At c =
+pub returns-in-Some-index_of : goal.returns-in-Some-index_of
+returns-in-Some-index_of c =
     let x = c.args in
-    old-entry-bit x.entries.now x.policy.now x.k x.i c.requires.0 _ (sym c.variation_entry.ensures ∙ c.in-Char.is) _
-    (sym c.index_of.ensures ∙ c.in-At.is) _ c.old_bit.ensures
+    old-entry-bit x.entries.now x.policy.now x.k x.i c.requires.0 _ (sym c.variation_entry.ensures ∙ c.in-Some.is) _
+    (sym c.index_of.ensures ∙ c.in-Some-index_of.is) _ c.old_bit.ensures
 
-pub returns-in-NoEntry-index_of : goal.returns-in-NoEntry-index_of
-returns-in-NoEntry-index_of c =
+pub returns-in-None-index_of : goal.returns-in-None-index_of
+returns-in-None-index_of c =
     let x = c.args in
-    new-entry-bit x.entries.now x.policy.now x.k x.i c.requires.0 _ (sym c.variation_entry.ensures ∙ c.in-Char.is)
-    (sym c.index_of.ensures ∙ c.in-NoEntry-index_of.is) x.default.now c.requires.2 _
-    c.old_bit-in-NoEntry-index_of.ensures
+    new-entry-bit x.entries.now x.policy.now x.k x.i c.requires.0 _ (sym c.variation_entry.ensures ∙ c.in-Some.is)
+    (sym c.index_of.ensures ∙ c.in-None-index_of.is) x.default.now c.requires.2 _
+    c.old_bit-in-None-index_of.ensures

@@ -1,4 +1,4 @@
-use mathlib.Core.Path.{◌≡◌, refl, sym, ◌∙◌}
+use mathlib.Core.Path.{◌≡◌, sym, ◌∙◌}
 use mathlib.Core.Bool.{false}
 use Prim.Native.Nat.{ℕ, ◌*◌, ◌≤◌}
 use native.Mathlib.Omega.{arith}
@@ -9,7 +9,7 @@ use Rattle.policy_migration.proofs.Coding.{unused_found, unused-none}
 use Rattle.policy_migration.proofs.no_unused.Goals as goal
 
 pub loop-i-init : goal.loop-i-init
-loop-i-init c = (omega arith, refl, λ m l k. absurd (omega arith))
+loop-i-init c = (omega arith, λ m l k. absurd (omega arith))
 
 pub old_bit-requires : goal.old_bit-requires
 old_bit-requires c = (omega arith, omega arith)
@@ -24,13 +24,12 @@ pub loop-i-preserved : goal.loop-i-preserved
 loop-i-preserved c =
     let x = c.args in let l = c.loop-i in (
       omega arith,
-      l.invariant.1,
       below_more (λ (m : ℕ). x.count ≤ m → member m (words_from x.words x.at x.policy.now) ≡ false)
-          l.i l.invariant.2 (λ k. sym c.old_bit.ensures ∙ c.if-old_bit.false),
+          l.i l.invariant.1 (λ k. sym c.old_bit.ensures ∙ c.if-old_bit.false),
     )
 
 pub returns : goal.returns
 returns c =
     let x = c.args in let l = c.loop-i in
     unused-none (x.words * 64) x.count (λ (m : ℕ). member m (words_from x.words x.at x.policy.now))
-    (λ m k h. l.invariant.2 m (omega arith) k)
+    (λ m k h. l.invariant.1 m (omega arith) k)

@@ -14,7 +14,7 @@ use Rattle.policy_migration.proofs.put_policy.Goals as goal
 pub loop-n-init : goal.loop-n-init
 loop-n-init c =
     let x = c.args in
-    (omega arith, begin_result x.entries.now x.policy.now x.out.now c.requires.0)
+    begin_result x.entries.now x.policy.now x.out.now c.requires.0
 
 pub new_word-requires : goal.new_word-requires
 new_word-requires c = (
@@ -28,11 +28,11 @@ overflow_add-at c =
     let x = c.args in
     let l = c.loop-n in
     let m = result_length x.entries.now x.policy.now in
-    let r = word_room (Ws x.entries.now x.policy.now) x.out.now l.out 0 l.at l.n (omega arith) l.invariant.1 in
+    let r = word_room (Ws x.entries.now x.policy.now) x.out.now l.out 0 l.at l.n (omega arith) l.invariant in
     omega arith
 
 pub shape_of-out : goal.shape_of-out
-shape_of-out c = c.loop-n.invariant.1.same
+shape_of-out c = c.loop-n.invariant.same
 
 pub returns : goal.returns
 unfolding bytes_of policy_bytes
@@ -41,16 +41,14 @@ returns c =
     let l = c.loop-n in
     let m = result_length x.entries.now x.policy.now in
     (finish (bytes_of (Ws x.entries.now x.policy.now)) 0 x.out.now
-    (bytes_of (drop l.n (Ws x.entries.now x.policy.now))) l.invariant.1
+    (bytes_of (drop l.n (Ws x.entries.now x.policy.now))) l.invariant
     (ap bytes_of (drop_of_length-le (Ws x.entries.now x.policy.now) {i = l.n} (omega arith)))).bytes
 
 pub loop-n-preserved : goal.loop-n-preserved
 loop-n-preserved c =
     let x = c.args in
     let l = c.loop-n in
-    let m = result_length x.entries.now x.policy.now in (
-      omega arith,
-      word-written (Ws x.entries.now x.policy.now) x.out.now l.out 0 l.at l.n (omega arith) l.invariant.1 _
-          (c.write_word.ensures.1 ∙ ap (λ (w : ℕ). cond (has_room l.out l.at)
-          (sets l.out l.at (word_bytes w)) l.out) c.new_word.ensures),
-    )
+    let m = result_length x.entries.now x.policy.now in
+    word-written (Ws x.entries.now x.policy.now) x.out.now l.out 0 l.at l.n (omega arith) l.invariant _
+    (c.write_word.ensures.1 ∙ ap (λ (w : ℕ). cond (has_room l.out l.at)
+    (sets l.out l.at (word_bytes w)) l.out) c.new_word.ensures)

@@ -6,4 +6,4 @@ use Rattle.positions.proofs.add_counts.Goals as goal
 
 pub returns : goal.returns
 unfolding capped_plus
-returns c = ap₂ text_count_lem c.add_count-chars.ensures c.add_count-units.ensures
+returns c = ap₂ text_count_lem c.add_count.ensures c.add_count-2.ensures

@@ -1,13 +1,12 @@
 -- `positions::count` meets its contract. The invariant: what was counted, and what the rest counts, are together the whole.
 use mathlib.Core.Path.{◌≡◌}
-use Prim.Native.Nat.{◌+◌, ◌-◌, ◌≤◌}
-use lib.ListN.{length, drop}
+use Prim.Native.Nat.{◌+◌}
+use Rattle.std.specs.Slice.Iter.{chunks_rest, chunks_size}
 use Rattle.positions.specs.Positions.{leads, long_leads_of}
 use Rattle.positions.proofs.count.Given as goal
 
-abbrev pub invariant-loop-i : goal.invariant-loop-i
-invariant-loop-i l = (l.i ≤ length l.part) × (l.leads + leads (drop l.i l.part) ≡ leads l.part) ×
-    (l.long + long_leads_of (drop l.i l.part) ≡ long_leads_of l.part)
-
-abbrev pub decreases-loop-i : goal.decreases-loop-i
-decreases-loop-i l = length l.part - l.i
+abbrev pub invariant-loop-bytes : goal.invariant-loop-bytes
+invariant-loop-bytes l =
+    goal.iterator-loop-bytes.can_next l.bytes-iterator × goal.iterator-loop-bytes.is_finite l.bytes-iterator
+    × (chunks_size l.bytes-iterator ≡ 192) × (l.leads + leads (chunks_rest l.bytes-iterator) ≡ leads l.part)
+    × (l.long + long_leads_of (chunks_rest l.bytes-iterator) ≡ long_leads_of l.part)

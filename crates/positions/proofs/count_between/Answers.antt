@@ -1,22 +1,21 @@
--- `positions::count_between` meets its contract: the stretch in its four cases.
+-- `positions::count_between` meets its contract: an offset after the text's end counts as its end.
 use mathlib.Core.Path.{ap, sym, ◌∙◌}
 use native.Mathlib.Omega.{arith}
 use Rattle.positions.specs.Positions.{counted, count_between, stretch}
-use Rattle.positions.proofs.Counting.{none-counted, stretch_cut, stretch-empty, stretch-past}
+use Rattle.positions.proofs.Counting.{none-counted, stretch-empty, stretch_within}
 use Rattle.positions.proofs.count_between.Goals as goal
 
-pub returns-then-to-from : goal.returns-then-to-from
-unfolding count_between
-returns-then-to-from c = sym (ap counted (stretch-empty _ _ _ (omega arith)) ∙ none-counted)
-
-pub returns-then-text-from : goal.returns-then-text-from
-unfolding count_between
-returns-then-text-from c = sym (ap counted (stretch-past _ _ _ (omega arith)) ∙ none-counted)
-
-pub returns-then-text-to : goal.returns-then-text-to
-unfolding count_between
-returns-then-text-to c = c.count.ensures ∙ ap counted (sym (stretch_cut _ _ _ (omega arith)))
-
-pub returns : goal.returns
+pub returns-in-Some : goal.returns-in-Some
 unfolding count_between stretch
-returns c = c.count-2.ensures
+returns-in-Some c =
+    let x = c.args in
+    let cut = ap (stretch x.text.now x.from) c.min.ensures ∙ stretch_within x.text.now x.from x.to in
+    c.count.ensures ∙ ap counted (c.in-Some.ensures.lookup.0.2 ∙ cut)
+
+pub returns-in-None : goal.returns-in-None
+unfolding count_between
+returns-in-None c =
+    let x = c.args in
+    let cut = ap (stretch x.text.now x.from) c.min.ensures ∙ stretch_within x.text.now x.from x.to in
+    sym (ap counted (sym cut ∙ stretch-empty x.text.now x.from c.min.result (omega (arith, c.in-None.ensures.lookup, c.min.ensures)))
+    ∙ none-counted)

@@ -16,14 +16,14 @@ repair_measured-requires c = omega (arith, c.if-text-gt-TEXT_LIMIT.false)
 pub returns-then-out-text : goal.returns-then-out-text
 returns-then-out-text c = ends_as c.repair_measured.ensures
 
-pub write_repaired-len-requires : goal.write_repaired-len-requires
-write_repaired-len-requires c =
+pub write_repaired-requires : goal.write_repaired-requires
+write_repaired-requires c =
     let x = c.args in
     (omega (arith, c.if-text-gt-TEXT_LIMIT.false), omega (arith, c.if-out-text.false, times (stretches x.text.now)))
 
 pub returns : goal.returns
 returns c =
-    let w = c.write_repaired-len.ensures in
+    let w = c.write_repaired.ensures in
     let x = c.args in
     ends_as (done x.text.now x.out.now (omega (arith, c.if-text-gt-TEXT_LIMIT.false)) _ _ (w.len.ends ∙ zero-add _) w.replaced
     (omega (arith, c.if-out-text.false, times (stretches x.text.now), w.len.ends)) w.len)

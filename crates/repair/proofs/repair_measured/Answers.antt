@@ -1,4 +1,6 @@
 -- `repair::repair_measured` meets its contract: the outcomes are those of Outcomes.
+use mathlib.Core.Path.{◌∙◌}
+use native.Mathlib.Nat.{zero-add}
 use native.Mathlib.Omega.{arith}
 use Rattle.repair.proofs.Outcomes.{copied, done, too_short}
 use Rattle.repair.proofs.repair_measured.Goals as goal
@@ -22,7 +24,7 @@ write_repaired-requires c =
 
 pub returns : goal.returns
 returns c =
-    let w = c.write_repaired in
+    let w = c.write_repaired.ensures in
     let m = c.measure-len in
-    done c.args.text.now c.args.out.now c.requires _ _ m.ensures.len m.ensures.replaced
-    (omega (arith, c.if-out-len.false)) w.ensures.len
+    done c.args.text.now c.args.out.now c.requires _ _ (w.len.ends ∙ zero-add _) w.replaced
+    (omega (arith, m.ensures.len, c.if-out-len.false, w.len.ends)) w.len

@@ -5,5 +5,4 @@ use Rattle.sheet_reading.proofs.write_meaning.Goals as goal
 pub returns : goal.returns
 returns c =
     let x = c.args in
-    meaning-written x.sheet.now x.out.now c.is_value.ensures c.read_pieces-policy.ensures
-    c.write_policy.ensures c.sheet_answer.ensures
+    meaning-written x.sheet.now x.out.now c.is_value.ensures c.read_pieces-policy.ensures c.write_policy.ensures

@@ -1,7 +1,7 @@
 -- `sheet_writing::line_len` meets its contract. The loop's invariant: the length so far and what the entries from i on add are the line's.
 use mathlib.Core.Path.{◌≡◌}
 use mathlib.Core.Bool.{false}
-use Prim.Native.Nat.{ℕ, ◌+◌, ◌*◌, ◌-◌, ◌≤◌}
+use Prim.Native.Nat.{ℕ, ◌+◌, ◌*◌, ◌≤◌}
 use lib.ListN.{drop, length}
 use Rattle.emoji.specs.UnicodeData.{variation_entries}
 use Rattle.policy_key_set.specs.Sets.{member}
@@ -10,11 +10,7 @@ use Rattle.sheet_writing.specs.OnePass.{line_from}
 use Rattle.sheet_writing.proofs.line_len.Given as goal
 
 abbrev pub invariant-loop-i : goal.invariant-loop-i
-invariant-loop-i l = (l.i ≤ 354)
-    × (l.n ≤ 7 * l.i)
+invariant-loop-i l = (l.n ≤ 7 * l.i)
     × (l.here ≡ first_in (λ (j : ℕ). member j l.set.bits) l.i (drop l.i variation_entries))
     × (l.n + length (line_from (λ (j : ℕ). member j l.set.bits) l.i l.before l.any (drop l.i variation_entries))
     ≡ length (line_from (λ (j : ℕ). member j l.set.bits) 0 false false variation_entries))
-
-abbrev pub decreases-loop-i : goal.decreases-loop-i
-decreases-loop-i l = 354 - l.i

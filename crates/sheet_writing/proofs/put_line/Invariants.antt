@@ -1,7 +1,7 @@
 -- `sheet_writing::put_line` meets its contract. The loop's invariant: what the entries from i on add is still to be written.
 use mathlib.Core.Path.{◌≡◌}
 use mathlib.Core.Bool.{false}
-use Prim.Native.Nat.{ℕ, ◌-◌, ◌≤◌}
+use Prim.Native.Nat.{ℕ}
 use lib.ListN.{drop}
 use Rattle.base.proofs.Writer.{Writing}
 use Rattle.emoji.specs.UnicodeData.{variation_entries}
@@ -11,10 +11,6 @@ use Rattle.sheet_writing.specs.OnePass.{line_from}
 use Rattle.sheet_writing.proofs.put_line.Given as goal
 
 abbrev pub invariant-loop-i : goal.invariant-loop-i
-invariant-loop-i l = (l.i ≤ 354)
-    × (l.here ≡ first_in (λ (j : ℕ). member j l.set.bits) l.i (drop l.i variation_entries))
+invariant-loop-i l = (l.here ≡ first_in (λ (j : ℕ). member j l.set.bits) l.i (drop l.i variation_entries))
     × Writing (line_from (λ (j : ℕ). member j l.set.bits) 0 false false variation_entries) l.start l.initial.out
     (line_from (λ (j : ℕ). member j l.set.bits) l.i l.before l.any (drop l.i variation_entries)) l.out l.at
-
-abbrev pub decreases-loop-i : goal.decreases-loop-i
-decreases-loop-i l = 354 - l.i

@@ -12,12 +12,7 @@ returns-then-store-lt-STORE_BYTES c =
 pub returns-then-reserves-ne0 : goal.returns-then-reserves-ne0
 returns-then-reserves-ne0 c =
     let x = c.args in
-    begin-odd x.capacity x.reserves.now x.store.now (omega arith) (λ p q. omega arith)
-
-pub returns-then-reserves-gt-RESERVES_BYTES : goal.returns-then-reserves-gt-RESERVES_BYTES
-returns-then-reserves-gt-RESERVES_BYTES c =
-    let x = c.args in
-    begin-odd x.capacity x.reserves.now x.store.now (omega arith) (λ p q. omega arith)
+    begin-odd x.capacity x.reserves.now x.store.now (omega arith) (λ p q. grind arith)
 
 pub returns-then-not-reserves_fit : goal.returns-then-not-reserves_fit
 returns-then-not-reserves_fit c =

@@ -37,13 +37,13 @@ returns-then-fits-bytes c =
     let l = c.left-fits in
     short-charged x.store.now x.client x.number x.bytes p q l.result l.ensures c.if-fits-bytes.true
 
-pub returns-then-bytes-eq-MOST : goal.returns-then-bytes-eq-MOST
-returns-then-bytes-eq-MOST c =
+pub returns-then-bytes-eq18446744073709551615 : goal.returns-then-bytes-eq18446744073709551615
+returns-then-bytes-eq18446744073709551615 c =
     let x = c.args in
     let p = sym c.has_place.ensures ∙ c.if-not-has_place.false in
     let q = sym c.is_taken.ensures ∙ c.if-is_taken.false in
     let l = c.left-fits in
-    most-charged x.store.now x.client x.number x.bytes p q l.result l.ensures c.if-fits-bytes.false c.if-bytes-eq-MOST.true
+    most-charged x.store.now x.client x.number x.bytes p q l.result l.ensures c.if-fits-bytes.false c.if-bytes-eq18446744073709551615.true
 
 pub put_charge-requires : goal.put_charge-requires
 put_charge-requires c =

@@ -11,6 +11,6 @@ returns c =
     let bs = c.args.store.now in
     let w = c.word in
     let r = c.reserved in
-    let m = c.minus.ensures ∙ ap (λ (v : ℕ). v - r.result) w.ensures.0 in
+    let m = c.saturating_sub.ensures ∙ ap (λ (v : ℕ). v - r.result) w.ensures.0 in
     common_is (word_at 0 bs) _ _ _ _ _ _ (omega (arith, w.ensures.0, w.ensures.1)) r.ensures m c.overflowed.ensures
-    c.minus-2.ensures
+    c.saturating_sub-2.ensures

@@ -1,13 +1,13 @@
-use mathlib.Core.Path.{ap, ◌∙◌}
+use mathlib.Core.Path.{ap, subst, ◌∙◌}
 use mathlib.Core.Bool.{cond}
 use mathlib.Core.List.{List}
-use Prim.Native.Nat.{ℕ}
+use Prim.Native.Nat.{ℕ, ◌+◌, ◌*◌}
 use native.Mathlib.Omega.{arith}
 use lib.ListN.{drop, drop_of_length-le}
 use lib.Seq.{sets}
-use Rattle.base.proofs.Numbers.{word_room, word-written}
+use Rattle.base.proofs.Numbers.{word-written}
 use Rattle.base.specs.Words.{bytes_of, has_room, word_bytes}
-use Rattle.base.proofs.Writer.{finish}
+use Rattle.base.proofs.Writer.{Writing, finish}
 use Rattle.policy.specs.PolicyBytes.{numbers_of}
 use Rattle.store.specs.Bytes.{new_bytes, new_words}
 use Rattle.store.proofs.Beginning.{few_reserves, new_length}
@@ -18,21 +18,13 @@ pub loop-k-init : goal.loop-k-init
 loop-k-init c =
     let x = c.args in
     let f = few_reserves x.reserves.now c.requires.1 in
-    (omega arith, begin_new x.capacity (numbers_of x.reserves.now) x.store.now f c.requires.2)
+    begin_new x.capacity (numbers_of x.reserves.now) x.store.now f c.requires.2
 
 pub new_word-requires : goal.new_word-requires
 new_word-requires c = (c.requires.0, omega arith)
 
-pub overflow_add-at : goal.overflow_add-at
-overflow_add-at c =
-    let x = c.args in
-    let ws = new_words x.capacity (numbers_of x.reserves.now) in
-    let m = new_length x.capacity (numbers_of x.reserves.now) (few_reserves x.reserves.now c.requires.1) in
-    let r = word_room ws x.store.now c.loop-k.store 0 c.loop-k.at c.loop-k.k (omega arith) c.loop-k.invariant.1 in
-    omega arith
-
 pub shape_of-store : goal.shape_of-store
-shape_of-store c = c.loop-k.invariant.1.same
+shape_of-store c = c.loop-k.invariant.same
 
 pub returns : goal.returns
 unfolding bytes_of new_bytes
@@ -42,7 +34,7 @@ returns c =
     let ws = new_words x.capacity (numbers_of x.reserves.now) in
     let m = new_length x.capacity (numbers_of x.reserves.now) (few_reserves x.reserves.now c.requires.1) in
     let d = ap bytes_of (drop_of_length-le ws {i = l.k} (omega arith)) in
-    (finish (bytes_of ws) 0 x.store.now (bytes_of (drop l.k ws)) l.invariant.1 d).bytes
+    (finish (bytes_of ws) 0 x.store.now (bytes_of (drop l.k ws)) l.invariant d).bytes
 
 pub loop-k-preserved : goal.loop-k-preserved
 loop-k-preserved c =
@@ -50,6 +42,7 @@ loop-k-preserved c =
     let x = c.args in
     let ws = new_words x.capacity (numbers_of x.reserves.now) in
     let m = new_length x.capacity (numbers_of x.reserves.now) (few_reserves x.reserves.now c.requires.1) in
-    let put : ℕ → List ℕ = λ w. cond (has_room l.store l.at) (sets l.store l.at (word_bytes w)) l.store in
+    let put : ℕ → List ℕ = λ w. cond (has_room l.store (8 * l.k)) (sets l.store (8 * l.k) (word_bytes w)) l.store in
     let e = c.write_word.ensures.1 ∙ ap put c.new_word.ensures in
-    (omega arith, word-written ws x.store.now l.store 0 l.at l.k (omega arith) l.invariant.1 _ e)
+    subst (Writing (bytes_of ws) 0 x.store.now (bytes_of (drop (l.k + 1) ws)) _) (omega arith)
+    (word-written ws x.store.now l.store 0 (8 * l.k) l.k (omega arith) l.invariant _ e)

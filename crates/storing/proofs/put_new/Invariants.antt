@@ -1,5 +1,5 @@
 -- The loop writes the bytes of the words that are left.
-use Prim.Native.Nat.{◌-◌, ◌≤◌}
+use Prim.Native.Nat.{◌*◌}
 use lib.ListN.{drop}
 use Rattle.base.specs.Words.{bytes_of}
 use Rattle.base.proofs.Writer.{Writing}
@@ -9,7 +9,4 @@ use Rattle.storing.proofs.put_new.Given as goal
 
 abbrev pub invariant-loop-k : goal.invariant-loop-k
 invariant-loop-k l = let ws = new_words l.capacity (numbers_of l.reserves) in
-    (l.k ≤ 4129) × Writing (bytes_of ws) 0 l.initial.store (bytes_of (drop l.k ws)) l.store l.at
-
-abbrev pub decreases-loop-k : goal.decreases-loop-k
-decreases-loop-k l = 4129 - l.k
+    Writing (bytes_of ws) 0 l.initial.store (bytes_of (drop l.k ws)) l.store (8 * l.k)

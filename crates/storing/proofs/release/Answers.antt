@@ -57,5 +57,5 @@ returns c =
     let x = c.args in
     let p = sym c.has_place.ensures ∙ c.if-not-has_place.false in
     let q = sym c.is_taken.ensures ∙ c.if-not-is_taken.false in
-    let k = c.minus-bytes.ensures ∙ ap (λ (w : ℕ). w - 1) c.word.ensures.0 in
+    let k = c.saturating_sub-bytes.ensures ∙ ap (λ (w : ℕ). w - 1) c.word.ensures.0 in
     is_released x.store.now x.client x.number p q _ k _ c.put_back.ensures

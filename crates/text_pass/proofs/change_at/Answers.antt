@@ -19,35 +19,35 @@ overflow_add-next c =
     omega (arith, s.room, c.well_formed.0.0)
 
 pub base_change-requires : goal.base_change-requires
-base_change-requires c = sym c.variation_sequence_index_by_block.ensures ∙ c.in-At.is
+base_change-requires c = sym c.variation_sequence_index_by_block.ensures ∙ c.in-Some.is
 
-pub returns-in-At : goal.returns-in-At
-returns-in-At c =
+pub returns-in-Some : goal.returns-in-Some
+returns-in-Some c =
     let x = c.args in
     let s = step x.text.now x.at x.ch x.width c.requires in
     change_at_base (policy_of x.policy.now) s
     (entry_no_selector x.ch _ (sym c.variation_sequence_index_by_block.ensures
-    ∙ c.in-At.is)) c.base_change.result c.base_change.ensures
+    ∙ c.in-Some.is)) c.base_change.result c.base_change.ensures
 
-pub returns-in-Selector : goal.returns-in-Selector
-returns-in-Selector c =
+pub returns-in-Some-from_selector : goal.returns-in-Some-from_selector
+returns-in-Some-from_selector c =
     let x = c.args in
     let s = step x.text.now x.at x.ch x.width
     c.requires in
-    let q = c.in-Selector.field-0 in
+    let q = c.in-Some-from_selector.field-0 in
     let h = subst (λ (v : ℕ). Step x.text.now x.at v x.width)
-    (selector_value x.ch q (sym c.from_selector.ensures ∙ c.in-Selector.is)) s in
+    (selector_value x.ch q (sym c.from_selector.ensures ∙ c.in-Some-from_selector.is)) s in
     change_at_selector (policy_of x.policy.now) q h c.selectors_end.result
     (c.selectors_end.ensures ∙ selectors_end x.text.now (x.at + x.width))
 
-pub returns-in-NoSelector : goal.returns-in-NoSelector
-returns-in-NoSelector c =
+pub returns : goal.returns
+returns c =
     let x = c.args in
     let s = step x.text.now x.at x.ch x.width
     c.requires in
     let n = plain_char x.ch (sym c.variation_sequence_index_by_block.ensures
-    ∙ c.in-NoEntry.is)
-    (sym c.from_selector.ensures ∙ c.in-NoSelector.is) in
+    ∙ c.in_default.is)
+    (sym c.from_selector.ensures ∙ c.in_default-from_selector.is) in
     let alike = c.skip_alike-end.ensures (policy_of x.policy.now) in (
       λ f. absurd (true≢false (sym f)),
       λ _.

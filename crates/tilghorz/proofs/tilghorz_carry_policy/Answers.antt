@@ -1,7 +1,7 @@
--- `tilghorz::tilghorz_carry_policy` meets its contract, by those of `carry_policy` and `carry_word`.
-use Rattle.policy_migration.specs.Carry.{carry_row}
+-- `tilghorz::tilghorz_carry_policy` meets its contract, by those of `carry_policy` and `answer_word`.
+use Rattle.base.specs.Answers.{answer_row}
 use Rattle.tilghorz.proofs.Outcomes.{outcome}
 use Rattle.tilghorz.proofs.tilghorz_carry_policy.Goals as goal
 
 pub returns : goal.returns
-returns c = let both = outcome carry_row c.carry_policy.ensures c.carry_word.ensures in record { word = both.0; bytes = both.1 }
+returns c = let both = outcome answer_row c.carry_policy.ensures c.answer_word.ensures in record { word = both.0; bytes = both.1 }

@@ -12,15 +12,15 @@ returns-then-s-at c =
     let x = c.args in
     sym (read_char-past_end x.s.now x.at (omega arith))
 
-pub returns-then-number-eq0 : goal.returns-then-number-eq0
-returns-then-number-eq0 c =
+pub returns-in-0 : goal.returns-in-0
+returns-in-0 c =
     let x = c.args in
-    let n = c.decode-number in
-    ap IllFormed c.bad_width-width.ensures
-    ∙ sym (packed_none x.s.now x.at n.result n.ensures c.if-number-eq0.true (omega arith))
+    let n = c.decode in
+    ap IllFormed c.bad_width.ensures
+    ∙ sym (packed_none x.s.now x.at n.result n.ensures c.in-0.is (omega arith))
 
-pub returns : goal.returns
-returns c =
+pub returns-in_default : goal.returns-in_default
+returns-in_default c =
     let x = c.args in
-    let n = c.decode-number in
+    let n = c.decode in
     sym (packed-reads (drop x.at x.s.now) n.result n.ensures (omega arith))

@@ -10,20 +10,20 @@ use Rattle.analysis.specs.Rules.{by_keycap, run_with}
 use Rattle.analysis.proofs.Rules.{has_entry, outcome_no_entry}
 use Rattle.analysis.proofs.singleton.analyze_by_index.Goals as goal
 
-pub returns-in-NoEntry : goal.returns-in-NoEntry
+pub returns-in-None : goal.returns-in-None
 unfolding NoIndexNoEntry
-returns-in-NoEntry c known =
+returns-in-None c known =
     let x = c.args in
-    let e = known ∙ c.in-NoEntry.is in
+    let e = known ∙ c.in-None.is in
     c.without_entry.ensures ∙ sym
     (outcome_no_entry (policy_of x.policy.now) x.base x.next (run_with x.first x.count)
     ((no_index_no_entry x.base).0 e))
 
-pub returns-in-At : goal.returns-in-At
-returns-in-At c known =
+pub returns-in-Some : goal.returns-in-Some
+returns-in-Some c known =
     let x = c.args in
     let p = policy_of x.policy.now in
-    let e = known ∙ c.in-At.is in
-    c.with_entry.ensures p (has_entry x.base c.in-At.index e)
-    (c.rule_at-rule.ensures ∙ ap (λ (b : Bool). entry_rule p c.in-At.index b) c.is_keycap.ensures
-    ∙ sym (rule_by_entry p x.base c.in-At.index (by_keycap x.next) e))
+    let e = known ∙ c.in-Some.is in
+    c.with_entry.ensures p (has_entry x.base c.in-Some.index e)
+    (c.rule_at-rule.ensures ∙ ap (λ (b : Bool). entry_rule p c.in-Some.index b) c.is_keycap.ensures
+    ∙ sym (rule_by_entry p x.base c.in-Some.index (by_keycap x.next) e))

@@ -12,9 +12,9 @@ pub loop-i-preserved : goal.loop-i-preserved
 loop-i-preserved c =
     let l = c.loop-i in
     let x = c.args in
-    let m = c.larger-top.ensures in (
+    let m = c.max-top.ensures in (
       omega arith,
-      and_next (λ (n : ℕ). get_or x.s.now n 0 ≤ c.larger-top.result) (λ j a b. omega (arith, l.invariant.1 j a b, m)) (omega (arith, m)),
+      and_next (λ (n : ℕ). get_or x.s.now n 0 ≤ c.max-top.result) (λ j a b. omega (arith, l.invariant.1 j a b, m)) (omega (arith, m)),
     )
 
 pub returns : goal.returns

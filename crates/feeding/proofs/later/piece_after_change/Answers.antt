@@ -69,7 +69,7 @@ overflow_add-valid_up_to c =
     let E = part-feed fd c.requires.1 in
     omega (
       arith,
-      c.minus.ensures,
+      c.saturating_sub.ensures,
       c.if-len-piece.false,
       valid_inside c.scan_piece-scan.ensures,
       len_fits (feed_part fd) b E r,
@@ -82,7 +82,7 @@ returns-then-not-left c =
     let r = state-read fd c.requires.1 c.read_state-state.ensures.words in
     ends-called (later-3 fd c.args.piece.now c.args.out.now c.requires.1 r c.if-state.false c.if-len-piece.false
     c.scan_piece-scan.ensures.valid_is c.left_after-left.ensures
-    (not-true _ c.if-not-left.true) c.minus.ensures)
+    (not-true _ c.if-not-left.true) c.saturating_sub.ensures)
 
 pub returns-then-out-wanted : goal.returns-then-out-wanted
 returns-then-out-wanted c =

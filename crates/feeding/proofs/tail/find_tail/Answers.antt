@@ -15,7 +15,7 @@ loop-at-smaller c = c.last_char-start.ensures.before
 pub loop-at-preserved : goal.loop-at-preserved
 loop-at-preserved c =
     backing_on c.loop-at.invariant c.last_char-start.ensures
-    c.requires.2 (sym c.selector_at.ensures ∙ c.in-Selector.is)
+    c.requires.2 (sym c.selector_at.ensures ∙ c.in-Some.is)
 
 pub held_at-requires : goal.held_at-requires
 held_at-requires c = omega (arith, c.loop-at.invariant.ends)
@@ -24,14 +24,14 @@ pub returns-then-has_variation_sequence_by_block : goal.returns-then-has_variati
 returns-then-has_variation_sequence_by_block c =
     tail-held c.loop-at.invariant
     c.last_char-start.ensures (sym
-    c.selector_at.ensures ∙ c.in-NoSelector.is)
+    c.selector_at.ensures ∙ c.in-None.is)
     c.decode-ch.ensures
     (sym c.has_variation_sequence_by_block.ensures ∙ c.if-has_variation_sequence_by_block.true) c.held_at.ensures
 
-pub returns-in-NoSelector : goal.returns-in-NoSelector
-returns-in-NoSelector c =
+pub returns-in-None : goal.returns-in-None
+returns-in-None c =
     tail_none c.loop-at.invariant
     c.last_char-start.ensures (sym
-    c.selector_at.ensures ∙ c.in-NoSelector.is)
+    c.selector_at.ensures ∙ c.in-None.is)
     c.decode-ch.ensures
     (sym c.has_variation_sequence_by_block.ensures ∙ c.if-has_variation_sequence_by_block.false) c.none_held.ensures

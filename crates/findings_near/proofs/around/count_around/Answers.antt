@@ -1,11 +1,12 @@
 -- `findings_near::around::count_around` meets its contract: `none-around` if the first search finds nothing before the end of the stretch,
 -- else `some-around` (`CountPass`).
+use mathlib.Core.Path.{◌∙◌}
 use native.Mathlib.Omega.{arith}
 use Rattle.policy.specs.PolicyBytes.{policy_of}
 use Rattle.formatter.specs.Findings.{findings}
 use Rattle.findings_near.proofs.AroundPass.{goes_on}
 use Rattle.findings_near.proofs.CountPass.{none-around, some-around}
-use Rattle.findings_near.proofs.NextRows.{span_advances}
+use Rattle.findings_near.proofs.NextRows.{from_bool_is, from_bool_small, span_advances}
 use Rattle.findings_near.proofs.around.count_around.Goals as goal
 
 pub returns-then-not-is_before : goal.returns-then-not-is_before
@@ -26,12 +27,19 @@ overflow_add-inside c =
       arith,
       m.few,
       m.advances.inside (a.inside (omega arith)),
-      c.one_if.ensures.1,
+      c.from.ensures,
+      from_bool_small c.is_inside.result,
       c.well_formed.0.1,
     )
 
 pub overflow_add-sharing : goal.overflow_add-sharing
-overflow_add-sharing c = omega (arith, c.one_if-first_sharing.ensures.1, c.one_if-2.ensures.1)
+overflow_add-sharing c = omega (
+  arith,
+  c.from-first_sharing.ensures,
+  from_bool_small c.is_sharing.result,
+  c.from-2.ensures,
+  from_bool_small c.is_before-2.result,
+)
 
 pub returns : goal.returns
 unfolding findings
@@ -44,8 +52,9 @@ returns c =
     let v = span_advances n.ensures in
     let w = span_advances m in
     let e = some-around (policy_of x.policy.now) x.text.now x.from x.to n.ensures on.0 m
-    c.is_inside.ensures c.one_if.ensures.0 c.is_sharing.ensures
-    c.one_if-first_sharing.ensures.0 c.is_before-2.ensures c.one_if-2.ensures.0 in record {
+    c.is_inside.ensures (c.from.ensures ∙ from_bool_is c.is_inside.result) c.is_sharing.ensures
+    (c.from-first_sharing.ensures ∙ from_bool_is c.is_sharing.result) c.is_before-2.ensures
+    (c.from-2.ensures ∙ from_bool_is c.is_before-2.result) in record {
       inside = e.0;
       sharing = e.1;
       valid = omega (arith, c.valid_end-valid_up_to-2.ensures, v.valid, v.on, w.valid, w.on);

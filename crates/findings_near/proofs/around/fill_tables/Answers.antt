@@ -23,16 +23,16 @@ returns-then-outer-outer_rows c =
     outer_short I O x.inner.now x.outer.now c.requires.0 c.requires.1 (omega (arith, c.if-inner-inner_rows.false))
     (omega (arith, c.if-outer-outer_rows.true))
 
-pub returns-then-are_empty : goal.returns-then-are_empty
-returns-then-are_empty c =
+pub returns-then-outer_rows-eq0 : goal.returns-then-outer_rows-eq0
+returns-then-outer_rows-eq0 c =
     let x = c.args in
     let l = listed x.text.now x.policy.now in
     let I = filter (inside x.from x.to) l in
     let O = filter (only_shares x.from x.to) l in
-    let e = c.are_empty.ensures c.if-are_empty.true in
     both-filled I O x.inner.now x.outer.now c.requires.0 c.requires.1 (omega (arith, c.if-inner-inner_rows.false))
     (omega (arith, c.if-outer-outer_rows.false))
-    (none_put x.inner.now (no_rows I c.requires.0 e.0)) (none_put x.outer.now (no_rows O c.requires.1 e.1))
+    (none_put x.inner.now (no_rows I c.requires.0 c.if-inner_rows-eq0.true))
+    (none_put x.outer.now (no_rows O c.requires.1 c.if-outer_rows-eq0.true))
 
 pub put_both-requires : goal.put_both-requires
 put_both-requires c =

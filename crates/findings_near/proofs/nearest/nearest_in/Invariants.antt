@@ -5,8 +5,8 @@ use Rattle.policy.specs.PolicyBytes.{policy_of}
 use Rattle.findings_near.proofs.NearestPass.{Nearing}
 use Rattle.findings_near.proofs.nearest.nearest_in.Given as goal
 
-abbrev pub invariant-loop-best : goal.invariant-loop-best
-invariant-loop-best l = Nearing (policy_of l.policy) l.text l.offset l.found l.best l.at l.before
+abbrev pub invariant-loop-finding : goal.invariant-loop-finding
+invariant-loop-finding l = Nearing (policy_of l.policy) l.text l.offset l.best l.at l.before
 
-abbrev pub decreases-loop-best : goal.decreases-loop-best
-decreases-loop-best l = length l.text - l.at
+abbrev pub decreases-loop-finding : goal.decreases-loop-finding
+decreases-loop-finding l = length l.text - l.at

@@ -1,11 +1,11 @@
 -- `formatter::intake::first_tests` meets its contract.
+use Rattle.std.specs.Prelude.{Err}
 use mathlib.Core.Path.{refl, sym, ap, ◌∙◌}
 use native.Mathlib.Omega.{arith}
 use lib.ListN.{length}
 use borrow.Author.Tests.{le-leb, lt-leb}
 use Rattle.base.proofs.Answering.{answers}
 use Rattle.base.specs.Refusals.{checked}
-use Rattle.base.specs.declared.Check.TheVariants.{Refused}
 use Rattle.base.specs.declared.Refusal.{Refusal}
 use Rattle.formatter.proofs.Passing.{first_is}
 use Rattle.formatter.proofs.intake.first_tests.Goals as goal
@@ -19,7 +19,7 @@ pub returns-then-not-is_policy : goal.returns-then-not-is_policy
 returns-then-not-is_policy c =
     let x = c.args in
     let fails = sym c.is_policy.ensures ∙ c.if-not-is_policy.true in
-    answers (ap (λ (r : Refusal). Refused r) c.policy_refusal.ensures
+    answers (ap (λ (r : Refusal). Err r) c.policy_refusal.ensures
     ∙ sym (ap checked (first_is x.text.now x.policy.now (le-leb (length x.text.now) 16777216 (omega arith)) fails)))
 
 pub returns : goal.returns

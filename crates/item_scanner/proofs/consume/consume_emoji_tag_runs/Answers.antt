@@ -1,5 +1,5 @@
 use mathlib.Core.Path.{◌≡◌, refl, ap, sym, ◌∙◌}
-use mathlib.Core.Bool.{false, false≢true}
+use mathlib.Core.Bool.{false}
 use mathlib.Core.List.{List, [], ◌∷◌}
 use Prim.Native.Nat.{ℕ, ◌+◌}
 use native.Mathlib.Omega.{arith}
@@ -20,7 +20,7 @@ use Rattle.scanner.proofs.Peek.{Seen, seen, seen_arm, Unseen, unseen}
 use Rattle.scanner.proofs.RunsAt.{run_none, run_on, run_over}
 use Rattle.item_scanner.proofs.TagsRead.{tags_begin, tags_none, tags_over, tags_selector, tags_tag}
 use Rattle.item_scanner.proofs.consume.consume_emoji_tag_runs.Invariants.{Left}
-use Rattle.item_scanner.proofs.consume.consume_emoji_tag_runs.Goals.{in-Char+in_default, in-NoChar}
+use Rattle.item_scanner.proofs.consume.consume_emoji_tag_runs.Goals.{in-Some+in_default-class, in_default}
 use Rattle.item_scanner.proofs.consume.consume_emoji_tag_runs.Goals as goal
 
 -- The run from `at` on ends at `end`, and the state p says whether its tags are complete.
@@ -46,26 +46,15 @@ other s h =
 pub groups-init : goal.groups-init
 groups-init c = let x = c.args in (refl, tags_begin (run in_tags (chars (drop x.at x.text.now))))
 
-pub loop-value-init : goal.loop-value-init
-loop-value-init c = (omega arith, λ e. absurd (false≢true e), c.groups.invariant)
-
-pub groups-preserved : goal.groups-preserved
-groups-preserved c = c.loop-value.invariant.2
-
-pub groups-smaller : goal.groups-smaller
-groups-smaller c =
-    let k = seen c.args.text.now c.loop-value.end (sym c.peek.ensures ∙ c.in-Char.is) in
-    omega (arith, c.loop-value.invariant.1 c.if-selectors.true, k.on, k.room)
-
-pub loop-value-smaller-in-Selector : goal.loop-value-smaller-in-Selector
-loop-value-smaller-in-Selector c =
-    let k = seen c.args.text.now c.loop-value.end (sym c.peek.ensures ∙ c.in-Char.is) in
+pub loop-next-smaller-in-Selector : goal.loop-next-smaller-in-Selector
+loop-next-smaller-in-Selector c =
+    let k = seen c.args.text.now c.loop-next.end (sym c.peek.ensures ∙ c.in-Some.is) in
     omega (arith, k.on, k.room)
 
-pub loop-value-preserved-in-Selector : goal.loop-value-preserved-in-Selector
-loop-value-preserved-in-Selector c =
-    let l = c.loop-value in
-    let k = seen c.args.text.now l.end (sym c.peek.ensures ∙ c.in-Char.is) in
+pub loop-next-preserved-in-Selector : goal.loop-next-preserved-in-Selector
+loop-next-preserved-in-Selector c =
+    let l = c.loop-next in
+    let k = seen c.args.text.now l.end (sym c.peek.ensures ∙ c.in-Some.is) in
     let e = c.in-Selector.is in
     let o = tags_test _ ∙ ap is_tag_or_selector_class (sym k.class ∙ e) in (
       omega (arith, k.on, l.invariant.0),
@@ -73,20 +62,20 @@ loop-value-preserved-in-Selector c =
       (l.invariant.2.0 ∙ run_on in_tags k o, tags_selector k l.invariant.2.1 e),
     )
 
-pub loop-value-smaller : goal.loop-value-smaller
-loop-value-smaller c =
-    let k = seen c.args.text.now c.loop-value.end (sym c.peek.ensures ∙ c.in-Char.is) in
+pub loop-next-smaller : goal.loop-next-smaller
+loop-next-smaller c =
+    let k = seen c.args.text.now c.loop-next.end (sym c.peek.ensures ∙ c.in-Some.is) in
     omega (arith, k.on, k.room)
 
-pub loop-value-preserved : goal.loop-value-preserved
-loop-value-preserved c =
-    let l = c.loop-value in
-    let k = seen c.args.text.now l.end (sym c.peek.ensures ∙ c.in-Char.is) in
+pub loop-next-preserved : goal.loop-next-preserved
+loop-next-preserved c =
+    let l = c.loop-next in
+    let k = seen c.args.text.now l.end (sym c.peek.ensures ∙ c.in-Some.is) in
     let e = c.in-Tag.is in
     let o = tags_test _ ∙ ap is_tag_or_selector_class (sym k.class ∙ e) in (
       omega (arith, k.on, l.invariant.0),
       λ _. omega (arith, k.on, l.invariant.0),
-      (l.invariant.2.0 ∙ run_on in_tags k o, rw c.after_tag-state.ensures (tags_tag k l.invariant.2.1 e)),
+      (l.invariant.2.0 ∙ run_on in_tags k o, rw c.after-state.ensures (tags_tag k l.invariant.2.1 e)),
     )
 
 pub returns : goal.returns
@@ -94,11 +83,11 @@ unfolding tag_modification_at
 returns c =
     let x = c.args in
     let text = x.text.now in
-    let l = c.loop-value in
+    let l = c.loop-next in
     let read = sym c.peek.ensures in
     let d : Over text x.at l.end l.state = elim c.match-peek.branch [
-      | in-Char+in_default w ↦ let k = seen text l.end (read ∙ w.in-Char.is) in
-          over_other x.at k (other k (opened w.in_default.in_default-own.keys3)) l.invariant.2
-      | in-NoChar w ↦ over_end x.at (unseen text l.end (read ∙ w.in-NoChar.is)) l.invariant.2
+      | in-Some+in_default-class w ↦ let k = seen text l.end (read ∙ w.in-Some.is) in
+          over_other x.at k (other k (opened w.in_default-class.in_default-class-own.keys3)) l.invariant.2
+      | in_default w ↦ over_end x.at (unseen text l.end (read ∙ w.in_default.is)) l.invariant.2
     ] in
-    record { end = d.0; complete = c.is_complete-complete.ensures ∙ d.1 }
+    record { end = d.0; complete = c.is_complete.ensures ∙ d.1 }

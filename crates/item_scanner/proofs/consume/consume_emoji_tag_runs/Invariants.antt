@@ -20,11 +20,11 @@ Left text at end p =
     (at + size width (run in_tags (chars (drop at text))) ≡ end + size width rest)
     × TagsRead (run in_tags (chars (drop at text))) rest p
 
-abbrev pub invariant-loop-value : goal.invariant-loop-value
-invariant-loop-value l = (l.initial.end ≤ l.end) × (l.selectors ≡ true → l.initial.end < l.end) × Left l.text l.at l.end l.state
+abbrev pub invariant-loop-next : goal.invariant-loop-next
+invariant-loop-next l = (l.initial.end ≤ l.end) × (l.selectors ≡ true → l.initial.end < l.end) × Left l.text l.at l.end l.state
 
-abbrev pub decreases-loop-value : goal.decreases-loop-value
-decreases-loop-value l = length l.text - l.end
+abbrev pub decreases-loop-next : goal.decreases-loop-next
+decreases-loop-next l = length l.text - l.end
 
 abbrev pub invariant-groups : goal.invariant-groups
 invariant-groups l = Left l.text l.at l.end l.state

@@ -14,15 +14,15 @@ pub loop-item-smaller : goal.loop-item-smaller
 loop-item-smaller c =
     let x = c.args in
     let l = c.loop-item in
-    let s = cursor_goes x.text.now l.at no_count (sym c.in-Item.is ∙ c.next_item.ensures) in
+    let s = cursor_goes x.text.now l.at no_count (sym c.in-Some.is ∙ c.next_item.ensures) in
     omega arith
 
 pub loop-item-preserved : goal.loop-item-preserved
 loop-item-preserved c =
     let x = c.args in
     let l = c.loop-item in
-    let s = cursor_goes x.text.now l.at no_count (sym c.in-Item.is ∙ c.next_item.ensures) in
-    let i = c.in-Item.item in
+    let s = cursor_goes x.text.now l.at no_count (sym c.in-Some.is ∙ c.next_item.ensures) in
+    let i = c.in-Some.item in
     (omega arith, omega arith, omega (arith, l.invariant.2, ap length s.1, same_number x.text.now i.end no_count (end_count i)))
 
 pub returns : goal.returns

@@ -1,45 +1,48 @@
-use mathlib.Core.Path.{refl, ap, sym, ◌∙◌, subst}
-use mathlib.Core.List.{List}
-use Prim.Native.Nat.{ℕ, ◌<◌}
-use Rattle.text_scanner.specs.Scanner.{answer_at, place_of}
+use mathlib.Core.Path.{ap, subst, sym}
+use native.Mathlib.Omega.{arith}
+use Rattle.base.proofs.Writer.{Writing, begin, finish, put, room}
+use Rattle.base.specs.Tables.{rows_bytes}
+use Rattle.base.specs.Words.{bytes_of}
+use Rattle.scanner.specs.Spans.{scan}
+use Rattle.formatter.specs.List.{item_numbers}
+use Rattle.formatter.proofs.RowBytes.{length_item}
+use Rattle.text_scanner.specs.Scanner.{items_left}
 use Rattle.text_scanner.specs.declared.Scanner.{Scanner}
-use Rattle.listing.proofs.ItemRows.{Going, going_begin, going_done, going_nearer, going_on, going_room, left}
+use Rattle.listing.proofs.ItemRows.{rows-on}
 use Rattle.listing.proofs.items.put_items.Goals as goal
 
-pub loop-rows-init : goal.loop-rows-init
-loop-rows-init c = (refl, going_begin c.args.text.now c.args.table.now c.requires)
+pub loop-item-init : goal.loop-item-init
+unfolding scan
+loop-item-init c =
+    let x = c.args in
+    let all = rows_bytes item_numbers (scan x.text.now) in
+    subst (λ (s : Scanner). Writing all 0 x.table.now (rows_bytes item_numbers (items_left s)) x.table.now 0)
+    (sym c.into_iter-item-iterator.ensures.into_iter_gives) (begin all 0 x.table.now (omega (arith, c.requires)))
 
-pub put_step-rows-requires : goal.put_step-rows-requires
-put_step-rows-requires c =
-    let l = c.loop-rows in
-    let k = c.next-step in
-    let p = place_of l.scanner in
-    let answer = k.ensures.0 ∙ ap (λ (u : List ℕ). answer_at u p) l.invariant.0 in
-    going_room l.invariant.1 k.result answer
-
-pub loop-rows-smaller : goal.loop-rows-smaller
-loop-rows-smaller c =
-    let t = c.args.text.now in
-    let l = c.loop-rows in
-    let k = c.next-step in
-    let put = c.put_step-rows in
-    let p = place_of l.scanner in
-    let answer = k.ensures.0 ∙ ap (λ (u : List ℕ). answer_at u p) l.invariant.0 in
-    subst (λ (s : Scanner). left t s.offset put.result.more < left t l.scanner.offset l.rows.more) (sym k.ensures.1)
-    (going_nearer l.invariant.1 k.result answer c.loop-rows-test.true put.ensures.1)
-
-pub loop-rows-preserved : goal.loop-rows-preserved
-loop-rows-preserved c =
-    let t = c.args.text.now in
-    let l = c.loop-rows in
-    let k = c.next-step in
-    let put = c.put_step-rows in
-    let p = place_of l.scanner in
-    let answer = k.ensures.0 ∙ ap (λ (u : List ℕ). answer_at u p) l.invariant.0 in (
-      ap (λ (s : Scanner). s.text.now) k.ensures.1 ∙ l.invariant.0,
-      subst (λ (s : Scanner). Going t c.args.table.now (place_of s) put.result.to put.new.table put.result.more) (sym k.ensures.1)
-          (going_on l.invariant.1 k.result answer put.ensures.0 put.ensures.1),
+pub put_item-to-requires : goal.put_item-to-requires
+put_item-to-requires c =
+    let x = c.args in
+    let l = c.loop-item in
+    let item = c.in-Some.item in
+    omega (
+      arith,
+      room (rows_bytes item_numbers (scan x.text.now)) 0 x.table.now (rows_bytes item_numbers (items_left l.item-iterator))
+          (bytes_of (item_numbers item)) (rows_bytes item_numbers (items_left c.next.new.self)) l.invariant
+          (rows-on c.in-Some.ensures.steps),
+      length_item item,
     )
 
+pub loop-item-preserved : goal.loop-item-preserved
+loop-item-preserved c =
+    let x = c.args in
+    let l = c.loop-item in
+    put (rows_bytes item_numbers (scan x.text.now)) 0 x.table.now (rows_bytes item_numbers (items_left l.item-iterator))
+    (rows_bytes item_numbers (items_left c.next.new.self)) l.invariant c.put_item-to.ensures (rows-on c.in-Some.ensures.steps)
+
 pub returns : goal.returns
-returns c = going_done c.loop-rows.invariant.1 c.loop-rows-test.false
+unfolding rows_bytes
+returns c =
+    let x = c.args in
+    let l = c.loop-item in
+    finish (rows_bytes item_numbers (scan x.text.now)) 0 x.table.now (rows_bytes item_numbers (items_left l.item-iterator)) l.invariant
+    (ap (rows_bytes item_numbers) c.in-None.ensures.steps.0)

@@ -1,13 +1,12 @@
--- `listing::items::put_items` meets its contract. The loop's invariant: the scanner is one of the text, and the rows of the items that it
--- has given stand in the table (ItemRows). The measure is the number of bytes after its offset, and 1 for the call that gives the end.
-use Rattle.std.proofs.Common.{◌≡◌}
-use Rattle.text_scanner.specs.Scanner.{place_of}
-use Rattle.listing.proofs.ItemRows.{Going, left}
+-- `listing::items::put_items` meets its contract. The loop's invariant: the rows of the items that the scanner has left are still to be
+-- written, from `to` on.
+use Rattle.base.proofs.Writer.{Writing}
+use Rattle.base.specs.Tables.{rows_bytes}
+use Rattle.scanner.specs.Spans.{scan}
+use Rattle.formatter.specs.List.{item_numbers}
+use Rattle.text_scanner.specs.Scanner.{items_left}
 use Rattle.listing.proofs.items.put_items.Given as goal
 
-abbrev pub invariant-loop-rows : goal.invariant-loop-rows
-invariant-loop-rows l =
-    (l.scanner.text.now ≡ l.text) × Going l.text l.fn.table (place_of l.scanner) l.rows.to l.table l.rows.more
-
-abbrev pub decreases-loop-rows : goal.decreases-loop-rows
-decreases-loop-rows l = left l.text l.scanner.offset l.rows.more
+abbrev pub invariant-loop-item : goal.invariant-loop-item
+invariant-loop-item l =
+    Writing (rows_bytes item_numbers (scan l.text)) 0 l.fn.table (rows_bytes item_numbers (items_left l.item-iterator)) l.table l.to

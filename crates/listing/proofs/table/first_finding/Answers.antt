@@ -17,7 +17,7 @@ returns-in-End c =
     let t = x.text.now in
     let s = analysis_says p t l.at l.before
     (sym c.in-End.is ∙ c.analyze_scan_item.ensures) in
-    λ a. c.no_finding.ensures ∙ first-none p t x.start ((l.invariant a).1 ∙ ap (map (finding_row p t)) s)
+    λ a. first-none p t x.start ((l.invariant a).1 ∙ ap (map (finding_row p t)) s)
 
 pub loop-end-smaller : goal.loop-end-smaller
 loop-end-smaller c =

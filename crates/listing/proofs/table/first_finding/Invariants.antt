@@ -8,7 +8,7 @@ use Rattle.formatter.proofs.Steps.{rows_from}
 use Rattle.listing.proofs.table.first_finding.Given as goal
 
 abbrev pub invariant-loop-end : goal.invariant-loop-end
-invariant-loop-end l = AtPosition l.text l.start (record { chars = l.chars; units = l.units })
+invariant-loop-end l = AtPosition l.text l.start l.fn.before
     → AtPosition l.text l.at l.before × (rows_from l.policy l.text l.start ≡ rows_from l.policy l.text l.at)
 
 abbrev pub decreases-loop-end : goal.decreases-loop-end

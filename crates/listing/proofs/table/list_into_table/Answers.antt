@@ -1,55 +1,105 @@
-use mathlib.Core.Path.{◌≡◌, refl, ap, ◌∙◌}
+use Rattle.std.specs.Prelude.{Err, Ok}
+use borrow.Author.Rules.{rules}
+use mathlib.Core.Path.{◌≡◌, refl, ap, ap₂, sym, ◌∙◌}
 use mathlib.Core.List.{List}
-use Prim.Native.Nat.{zero-le}
+use Prim.Native.Nat.{ℕ, ◌+◌, ◌<◌, ◌≤◌, zero-le}
 use native.Mathlib.Omega.{arith}
-use lib.ListN.{length, set}
+use lib.ListN.{drop, length, length-map, set}
 use Rattle.base.proofs.Answering.{ends_as}
+use Rattle.policy.specs.PolicyBytes.{policy_of}
+use Rattle.policy.specs.declared.Policy.{Policy}
+use Rattle.analysis.specs.Findings.{findings_from}
 use Rattle.analysis.specs.declared.types.Finding.{Finding}
+use Rattle.positions.specs.Positions.{AtPosition}
 use Rattle.positions.proofs.Counting.{at_start}
+use Rattle.formatter.specs.Findings.{finding_row, findings, listed}
+use Rattle.formatter.specs.Intake.{intake_refusal}
+use Rattle.formatter.proofs.Passing.{checked-passed, checked_refused, read-policy}
 use Rattle.formatter.proofs.Steps.{rows_from}
-use Rattle.listing.proofs.Storing.{length_stored, planned, stored, turn}
+use Rattle.listing.proofs.Storing.{all_stored, end_of, list-all, list-short, list_refused, stored, turn}
 use Rattle.listing.proofs.table.list_into_table.Goals as goal
 
-pub loop-k-init : goal.loop-k-init
-loop-k-init c = (zero-le, at_start c.args.text.now (omega (arith, c.well_formed)), refl, refl)
+-- The number of findings counted is the number of rows.
+counted : (text policy : List ℕ) {n : ℕ} → n ≡ length (findings_from (policy_of policy) text 0) → n ≡ length (listed text policy)
+unfolding findings
+counted text policy e = e ∙ sym (length-map (findings_from (policy_of policy) text 0) (finding_row (policy_of policy) text))
 
-pub offset_bounds-table-k : goal.offset_bounds-table-k
-offset_bounds-table-k c =
-    let plan = planned c.args.text.now c.args.policy.now c.args.table.now c.plan_listing-plan.ensures in
-    omega (arith, plan.room, c.loop-k-test.true, c.well_formed)
+-- The rows under the policy that was read.
+rows_same : (text policy : List ℕ) {p : Policy} → p ≡ policy_of policy → rows_from p text 0 ≡ listed text policy
+unfolding findings
+rows_same text policy e = ap (λ (p : Policy). rows_from p text 0) e
 
-pub bounds-table-k : goal.bounds-table-k
-bounds-table-k c =
-    let l = c.loop-k in
-    let plan = planned c.args.text.now c.args.policy.now c.args.table.now c.plan_listing-plan.ensures in
-    let long = ap length l.invariant.3
-    ∙ length_stored (rows_from c.plan_listing-plan.result.policy c.args.text.now 0) c.args.table.now l.k
-    (omega (arith, plan.held, l.invariant.0)) (omega (arith, plan.room, l.invariant.0)) in
-    omega (arith, long, plan.room, c.loop-k-test.true)
-
-pub loop-k-preserved : goal.loop-k-preserved
-loop-k-preserved c =
+pub returns-in_err-intake : goal.returns-in_err-intake
+returns-in_err-intake c =
     let x = c.args in
-    let l = c.loop-k in
-    let f = c.first_finding-finding in
-    let p = c.plan_listing-plan.result.policy in
-    let rows = rows_from p x.text.now 0 in
-    let plan = planned x.text.now x.policy.now x.table.now c.plan_listing-plan.ensures in
-    let on = turn p x.text.now rows x.table.now l.k l.at (record { chars = l.chars; units = l.units }) f.result l.invariant.1
-    l.invariant.2 (omega (arith, plan.held, c.loop-k-test.true)) (omega (arith, plan.room, c.loop-k-test.true))
-    (f.ensures l.invariant.1) in (
-      omega (arith, c.loop-k-test.true),
-      on.2,
-      on.1,
-      ap (λ (ys : List Finding). set ys l.k f.result) l.invariant.3 ∙ on.0,
+    let r : c.from_residual.result ≡ Err c.in_err-intake.field-0.0 = search rules in
+    rw r (ends_as (list_refused x.text.now x.policy.now x.table.now c.in_err-intake.field-0.0
+    (checked_refused (intake_refusal x.text.now x.policy.now) c.in_err-intake.field-0.0 (sym c.intake.ensures.same ∙ c.in_err-intake.was))))
+
+pub returns-then-table-findings : goal.returns-then-table-findings
+returns-then-table-findings c =
+    let x = c.args in
+    let e = checked-passed (intake_refusal x.text.now x.policy.now) (sym c.intake.ensures.same ∙ c.in_ok-intake.was) in
+    ends_as (list-short x.text.now x.policy.now x.table.now e (counted x.text.now x.policy.now c.count_findings-findings.ensures.findings)
+    c.if-table-findings.true)
+
+pub loop-finding-init : goal.loop-finding-init
+loop-finding-init c = (zero-le, at_start c.args.text.now (omega (arith, c.well_formed)), refl, refl)
+
+-- The turn of the loop: what it stores has room, and what holds after it.
+turned : (c : goal.In-Some) → let rows = rows_from c.read_policy.result.policy c.args.text.now 0 in
+    let l = c.loop-finding in
+    let f = c.in-Some.finding in
+    (length rows ≤ length c.args.table.now)
+    × (l.place < length rows)
+    × (set (stored rows c.args.table.now l.place) l.place f ≡ stored rows c.args.table.now (l.place + 1))
+    × (rows_from c.read_policy.result.policy c.args.text.now f.end ≡ drop (l.place + 1) rows)
+    × AtPosition c.args.text.now f.end (end_of f)
+turned c =
+    let x = c.args in
+    let t = x.text.now in
+    let l = c.loop-finding in
+    let p = c.read_policy.result.policy in
+    let rows = rows_from p t 0 in
+    let same = rows_same t x.policy.now (read-policy x.policy.now c.read_policy.ensures) in
+    let n = counted t x.policy.now c.count_findings-findings.ensures.findings in
+    let room : length rows ≤ length x.table.now = omega (arith, ap length same, n, c.if-table-findings.false) in
+    let on = turn p t rows x.table.now l.place l.at l.before c.in-Some.finding l.invariant.1 l.invariant.2 room
+    (sym c.in-Some.is ∙ c.first_finding.ensures l.invariant.1) in
+    (room, on.0, on.1, on.2, on.3)
+
+pub offset_bounds-table-place : goal.offset_bounds-table-place
+offset_bounds-table-place c = let on = turned c in omega (arith, on.0, on.1, c.well_formed)
+
+pub bounds-table-place : goal.bounds-table-place
+bounds-table-place c = let on = turned c in omega (arith, on.0, on.1, c.loop-finding.auto.table)
+
+pub loop-finding-smaller : goal.loop-finding-smaller
+loop-finding-smaller c = omega (arith, (turned c).1)
+
+pub loop-finding-preserved : goal.loop-finding-preserved
+loop-finding-preserved c =
+    let on = turned c in
+    let l = c.loop-finding in (
+      omega (arith, on.1),
+      on.4,
+      on.3,
+      ap (λ (ys : List Finding). set ys l.place c.in-Some.finding) l.invariant.3 ∙ on.2,
     )
 
 pub returns : goal.returns
 returns c =
     let x = c.args in
-    let l = c.loop-k in
-    let p = c.plan_listing-plan.result.policy in
-    let plan = planned x.text.now x.policy.now x.table.now c.plan_listing-plan.ensures in
-    let all : l.k ≡ c.plan_listing-plan.result.places = omega (arith, l.invariant.0, c.loop-k-test.false) in
-    ends_as (ap (λ (ys : List Finding). record { answer = c.plan_listing-plan.result.answer; buffer = ys })
-    (l.invariant.3 ∙ ap (stored (rows_from p x.text.now 0) x.table.now) all) ∙ plan.listed)
+    let t = x.text.now in
+    let q = x.policy.now in
+    let l = c.loop-finding in
+    let p = c.read_policy.result.policy in
+    let e = checked-passed (intake_refusal t q) (sym c.intake.ensures.same ∙ c.in_ok-intake.was) in
+    let n = counted t q c.count_findings-findings.ensures.findings in
+    let same = rows_same t q (read-policy q c.read_policy.ensures) in
+    let all = all_stored p t (rows_from p t 0) l.place l.at l.invariant.2 l.invariant.0
+    (sym c.in_default.is ∙ c.first_finding.ensures l.invariant.1) in
+    let k : l.place ≡ c.count_findings-findings.result.findings = all ∙ ap length same ∙ sym n in
+    ends_as (ap (λ (ys : List Finding). record { answer = Ok c.count_findings-findings.result.findings; buffer = ys })
+    (l.invariant.3 ∙ ap₂ (λ (rows : List Finding) (k : ℕ). stored rows x.table.now k) same k)
+    ∙ list-all t q x.table.now e n (omega (arith, c.if-table-findings.false)))

@@ -6,10 +6,9 @@ use Rattle.listing.proofs.table.no_finding.Goals as goal
 
 pub returns : goal.returns
 returns c =
-    let at = c.args.at in
     let with-counts : NonCanonicality → Finding = λ counts. record {
-      start = at;
-      end = at;
+      start = 0;
+      end = 0;
       counts = counts;
       char_start = 0;
       char_end = 0;

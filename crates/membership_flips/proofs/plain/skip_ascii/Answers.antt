@@ -1,3 +1,5 @@
+use Rattle.std.proofs.Common.{◌≡◌, ℕ, length, subst}
+use Rattle.membership_flips.specs.Pass.{NoEntryBetween}
 use native.Mathlib.Omega.{arith}
 use Rattle.membership_flips.proofs.Skipping.{none_ascii, none_here, none-on}
 use Rattle.membership_flips.proofs.plain.skip_ascii.Goals as goal
@@ -15,4 +17,7 @@ loop-at-preserved c =
     none-on l.invariant (none_ascii l.at (omega (arith, c.loop-at-test.true)) q.0 q.1)
 
 pub returns : goal.returns
-returns c = c.loop-at.invariant
+returns c =
+    let x = c.args in
+    let e : c.loop-at.at ≡ length x.text.now = omega (arith, c.loop-at-test.false, c.loop-at.auto.at-end c.requires) in
+    subst (λ (n : ℕ). NoEntryBetween x.text.now x.from n) e c.loop-at.invariant

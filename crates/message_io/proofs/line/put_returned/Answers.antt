@@ -1,12 +1,10 @@
-use Rattle.std.proofs.Common.{refl}
-use Rattle.base.specs.Refusals.{returned}
+use Rattle.std.proofs.Common.{ap, sym, ◌∙◌}
+use Rattle.base.specs.Refusals.{as_list, returned}
 use Rattle.message_io.proofs.Texts.{nothing_put, value_put}
 use Rattle.message_io.proofs.line.put_returned.Goals as goal
 
-pub returns-then-returns_value : goal.returns-then-returns_value
-returns-then-returns_value c =
-    value_put (returned c.args.refusal)
-    (rw (c.returns_value.ensures, c.if-returns_value.true, c.refusal_value.ensures) refl) c.put_number.ensures
+pub returns-in-Some : goal.returns-in-Some
+returns-in-Some c = value_put (returned c.args.refusal) (ap as_list (sym c.value.ensures ∙ c.in-Some.is)) c.put_number.ensures
 
-pub returns : goal.returns
-returns c = nothing_put (returned c.args.refusal) (rw (c.returns_value.ensures, c.if-returns_value.false) refl)
+pub returns-in-None : goal.returns-in-None
+returns-in-None c = nothing_put (returned c.args.refusal) (ap as_list (sym c.value.ensures ∙ c.in-None.is))

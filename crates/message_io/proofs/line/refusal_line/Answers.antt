@@ -15,20 +15,20 @@ unfolding refusal_line with_blanks
 returns-clause-out_after c =
     let x = c.args.refusal in
     let p = c.put_bytes-at.ensures in
-    let n = c.refusal_number in
+    let n = c.number in
     let q = c.put_number-at.ensures in
     let v = c.put_returned-at.ensures in
     let s = c.put_bytes in
     let short : s.result ≤ 210 = omega (arith, p.ends, q.1, v.1, s.ensures.ends) in
     let w = front (line_put (map decimal (n.result ∷ returned x)) p (put_then q.0 v.0) s.ensures) (omega (arith, short)) in
-    w.1.0 ∙ ap (λ (k : ℕ). line (word ∷ map decimal (k ∷ returned x))) n.ensures.0
+    w.1.0 ∙ ap (λ (k : ℕ). line (word ∷ map decimal (k ∷ returned x))) n.ensures.table
 
 pub returns-clause-out_unchanged : goal.returns-clause-out_unchanged
 unfolding with_blanks
 returns-clause-out_unchanged c =
     let x = c.args.refusal in
     let p = c.put_bytes-at.ensures in
-    let n = c.refusal_number in
+    let n = c.number in
     let q = c.put_number-at.ensures in
     let v = c.put_returned-at.ensures in
     let s = c.put_bytes in

@@ -1,7 +1,12 @@
--- `char_set::count_ones` meets its contract: the number of ones is the number of the bits that are 1.
-use lib.Count.{ones-le}
-use Rattle.policy_key_set.proofs.Sizes.{ones_count}
+-- `char_set::count_ones` meets its contract: the number of ones is the number of members.
+use Rattle.std.proofs.Common.{rules, ◌≡◌}
+use Rattle.std.specs.Prelude.{count_ones, sum_by}
+use mathlib.Core.Path.{◌∙◌}
+use Rattle.policy_key_set.proofs.Sizes.{ones-members}
 use Rattle.policy_key_set.proofs.char_set.count_ones.Goals as goal
 
 pub returns : goal.returns
-returns c = (ones_count 64 c.args.w c.ranges.w.fits, ones-le 64 c.args.w c.ranges.w.fits)
+returns c m h =
+    let ws = c.args.words.now in
+    let e : c.sum.result ≡ sum_by count_ones ws = search rules in
+    e ∙ ones-members ws m h (λ k. (c.type_inv.words k).fits)

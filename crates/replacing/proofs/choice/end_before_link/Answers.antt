@@ -14,34 +14,34 @@ pub returns-in-Link : goal.returns-in-Link
 returns-in-Link c =
     let x = c.args in
     let k = seen c.args.raw.now
-    c.loop-class.end
-    (sym c.peek.ensures ∙ c.in-Char.is) in
+    c.loop-seen.end
+    (sym c.peek.ensures ∙ c.in-Some.is) in
     let e = ap not (link_test _ ∙ ap is_link_class (sym k.class ∙ c.in-Link.is)) in
     omega (arith, run_over off_link k e, link_end x.raw.now x.at)
 
-pub loop-class-smaller : goal.loop-class-smaller
-loop-class-smaller c =
+pub loop-seen-smaller : goal.loop-seen-smaller
+loop-seen-smaller c =
     let k = seen c.args.raw.now
-    c.loop-class.end
-    (sym c.peek.ensures ∙ c.in-Char.is) in
+    c.loop-seen.end
+    (sym c.peek.ensures ∙ c.in-Some.is) in
     omega (arith, k.on, k.room)
 
-pub loop-class-preserved : goal.loop-class-preserved
-loop-class-preserved c =
+pub loop-seen-preserved : goal.loop-seen-preserved
+loop-seen-preserved c =
     let k = seen c.args.raw.now
-    c.loop-class.end
-    (sym c.peek.ensures ∙ c.in-Char.is) in
+    c.loop-seen.end
+    (sym c.peek.ensures ∙ c.in-Some.is) in
     let e = ap not (link_test _ ∙ ap is_link_class (sym k.class)
     ∙ seen_arm k is_link_class false (0 ∷ 2 ∷ 3 ∷ 4 ∷ 5 ∷ 6 ∷ 7 ∷ []) (refl, tt, refl, refl, refl, refl, refl, refl)
-    (opened c.in_default.in_default-own.keys2)) in
-    c.loop-class.invariant ∙ run_on off_link k e
+    (opened c.in_default-class.in_default-class-own.keys2)) in
+    c.loop-seen.invariant ∙ run_on off_link k e
 
-pub returns-in-NoChar : goal.returns-in-NoChar
-returns-in-NoChar c =
+pub returns : goal.returns
+returns c =
     let x = c.args in
     omega (
       arith,
-      run_none off_link (unseen x.raw.now c.loop-class.end
-          (sym c.peek.ensures ∙ c.in-NoChar.is)),
+      run_none off_link (unseen x.raw.now c.loop-seen.end
+          (sym c.peek.ensures ∙ c.in_default.is)),
       link_end x.raw.now x.at,
     )

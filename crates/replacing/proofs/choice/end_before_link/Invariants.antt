@@ -9,9 +9,9 @@ use Rattle.scanner.specs.Spans.{size, width}
 use Rattle.analysis.proofs.ChoicesAt.{off_link}
 use Rattle.replacing.proofs.choice.end_before_link.Given as goal
 
-abbrev pub invariant-loop-class : goal.invariant-loop-class
-invariant-loop-class l = l.at + size width (run off_link (chars (drop l.at l.raw))) ≡ l.end
+abbrev pub invariant-loop-seen : goal.invariant-loop-seen
+invariant-loop-seen l = l.at + size width (run off_link (chars (drop l.at l.raw))) ≡ l.end
     + size width (run off_link (chars (drop l.end l.raw)))
 
-abbrev pub decreases-loop-class : goal.decreases-loop-class
-decreases-loop-class l = length l.raw - l.end
+abbrev pub decreases-loop-seen : goal.decreases-loop-seen
+decreases-loop-seen l = length l.raw - l.end

@@ -6,8 +6,8 @@ use lib.ListN.{length}
 use Rattle.analysis.specs.ChoicesAt.{choice_at}
 use Rattle.replacing.proofs.choice.next_choice.Given as goal
 
-abbrev pub invariant-loop-value : goal.invariant-loop-value
-invariant-loop-value l = choice_at l.policy l.raw l.at ≡ choice_at l.policy l.raw l.start
+abbrev pub invariant-loop-seen : goal.invariant-loop-seen
+invariant-loop-seen l = choice_at l.policy l.raw l.at ≡ choice_at l.policy l.raw l.start
 
-abbrev pub decreases-loop-value : goal.decreases-loop-value
-decreases-loop-value l = length l.raw - l.start
+abbrev pub decreases-loop-seen : goal.decreases-loop-seen
+decreases-loop-seen l = length l.raw - l.start

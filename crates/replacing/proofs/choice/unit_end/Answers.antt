@@ -4,17 +4,17 @@ use Rattle.scanner.proofs.Peek.{seen, unseen}
 use Rattle.analysis.proofs.ChoicesAt.{first_cell, unit_none, unit_on}
 use Rattle.replacing.proofs.choice.unit_end.Goals as goal
 
-pub returns-in-Char : goal.returns-in-Char
-returns-in-Char c =
+pub returns-in-Some : goal.returns-in-Some
+returns-in-Some c =
     let x = c.args in
     let r = c.run_end-start in
-    let k = seen x.raw.now r.result (sym c.peek.ensures ∙ c.in-Char.is) in
+    let k = seen x.raw.now r.result (sym c.peek.ensures ∙ c.in-Some.is) in
     unit_on x.raw.now x.at r.result (r.ensures ∙ first_cell x.raw.now x.at) c.end_before_link.result k
     c.end_before_link.ensures
 
-pub returns-in-NoChar : goal.returns-in-NoChar
-returns-in-NoChar c =
+pub returns-in-None : goal.returns-in-None
+returns-in-None c =
     let x = c.args in
     let r = c.run_end-start in
-    let k = unseen x.raw.now r.result (sym c.peek.ensures ∙ c.in-NoChar.is) in
+    let k = unseen x.raw.now r.result (sym c.peek.ensures ∙ c.in-None.is) in
     unit_none x.raw.now x.at r.result (r.ensures ∙ first_cell x.raw.now x.at) k

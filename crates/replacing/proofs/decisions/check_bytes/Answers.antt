@@ -1,49 +1,50 @@
-use mathlib.Core.Path.{◌≡◌, ap, sym, ◌∙◌}
-use mathlib.Core.List.{List, ◌∷◌}
-use mathlib.Core.Option.{none, some}
-use Prim.Native.Nat.{ℕ, suc, ◌+◌, ◌<◌, ◌≤◌}
+-- `replacing::decisions::check_bytes` meets its contract: the first decision above 1 is where `position` finds it.
+use Rattle.std.specs.Prelude.{◌≡◌, Bool, true, false, cond, List, [], ◌∷◌, ℕ, suc, ◌+◌, ltb, position, Option, Some, None}
+use Rattle.std.specs.List.{position_from}
+use Rattle.std.proofs.Common.{rules, tests}
+use Rattle.std.proofs.lemmas.Bool.{ltb-false, ltb-true}
+use Rattle.std.proofs.lemmas.Iterator.{YieldsList-from_slice}
+use Rattle.std.proofs.lemmas.Iterator.Adapters.{position_from-zero}
+use Rattle.std.proofs.lemmas.Iterator.Search.{position_from_yields_List}
+use mathlib.Core.Path.{refl, sym, subst, ap, ◌∙◌}
 use native.Mathlib.Omega.{arith}
 use borrow.Author.Tests.{le-leb, lt-leb}
-use lib.ListN.{drop, drop_of_length-le, get_or, length}
-use lib.Seq.{drop-cons}
 use Rattle.base.specs.Refusals.{checked}
+use Rattle.base.specs.declared.Refusal.{Refusal}
 use Rattle.base.specs.declared.Refusal.TheVariants.{BadDecision}
 use Rattle.analysis.specs.Decisions.{bad_decision}
 use Rattle.replacing.proofs.decisions.check_bytes.Goals as goal
 
--- A decision of 0 or 1 passes the test, and the first one above 1 is refused.
-passes : (i d : ℕ) (ds : List ℕ) → d ≤ 1 → bad_decision i (d ∷ ds) ≡ bad_decision (suc i) ds
+-- The refusal of the decision at an index.
+abbrev bad_at : Option ℕ → Option Refusal
+bad_at None = None
+bad_at (Some i) = Some (BadDecision i)
+
+first_bad : (n : ℕ) (ds : List ℕ) → bad_decision n ds ≡ bad_at (position_from (ltb 1) n ds)
 unfolding bad_decision
-passes i d ds l = simp (le-leb d 1 l)
+first_bad n [] = refl
+first_bad n (d ∷ ds) = go (ltb 1 d) refl (first_bad (suc n) ds)
+  where
+    go : (b : Bool) → ltb 1 d ≡ b → bad_decision (suc n) ds ≡ bad_at (position_from (ltb 1) (suc n) ds)
+        → bad_decision n (d ∷ ds) ≡ bad_at (cond (ltb 1 d) (Some n) (position_from (ltb 1) (n + 1) ds))
+    go true e h = simp (e, lt-leb d 1 (ltb-true 1 d e))
+    go false e h =
+        let s : suc n ≡ n + 1 = omega arith in
+        let g = subst (λ (k : ℕ). bad_decision k ds ≡ bad_at (position_from (ltb 1) k ds)) s h in
+        simp (e, le-leb d 1 (ltb-false 1 d e), s, g)
 
-refused : (i d : ℕ) (ds : List ℕ) → 1 < d → bad_decision i (d ∷ ds) ≡ some (BadDecision i)
-unfolding bad_decision
-refused i d ds l = simp (lt-leb d 1 l)
+-- The refusal by the answer of `position`.
+by_position : (ds : List ℕ) (r : Option ℕ) → r ≡ position (ltb 1) ds → checked (bad_at r) ≡ checked (bad_decision 0 ds)
+by_position ds r e = ap (λ (o : Option ℕ). checked (bad_at o)) (e ∙ position_from-zero (ltb 1) ds) ∙ sym (ap checked (first_bad 0 ds))
 
-good : (ds : List ℕ) (i : ℕ) → i < length ds → get_or ds i 0 ≤ 1 → bad_decision i (drop i ds) ≡ bad_decision (i + 1) (drop (i + 1) ds)
-good ds i l g =
-    let e : suc i ≡ i + 1 = omega arith in
-    ap (bad_decision i) (drop-cons ds i 0 l) ∙ passes i (get_or ds i 0) (drop (suc i) ds) g ∙ ap (λ (k : ℕ). bad_decision k (drop k ds)) e
+pub returns-in-Some : goal.returns-in-Some
+returns-in-Some c =
+    let found = position_from_yields_List (ltb 1) _ _ c.position.result c.position.ensures.ran
+    (YieldsList-from_slice _ c.iter.ensures.rest) (λ x b q k. search (rules, tests)) in
+    by_position c.args.decisions.now _ (sym c.in-Some.is ∙ found)
 
-bad : (ds : List ℕ) (i : ℕ) → i < length ds → 1 < get_or ds i 0 → bad_decision i (drop i ds) ≡ some (BadDecision i)
-bad ds i l g = ap (bad_decision i) (drop-cons ds i 0 l) ∙ refused i (get_or ds i 0) (drop (suc i) ds) g
-
-bad_decision-none : (ds : List ℕ) (i : ℕ) → length ds ≤ i → bad_decision i (drop i ds) ≡ none
-unfolding bad_decision
-bad_decision-none ds i l = ap (bad_decision i) (drop_of_length-le ds l)
-
-pub returns-then-decisions-i-gt1 : goal.returns-then-decisions-i-gt1
-returns-then-decisions-i-gt1 c =
-    let l = c.loop-i in
-    sym (ap checked (l.invariant ∙ bad _ l.i c.loop-i-test.true c.if-decisions-i-gt1.true))
-
-pub loop-i-smaller : goal.loop-i-smaller
-loop-i-smaller c = omega (arith, c.loop-i-test.true)
-
-pub loop-i-preserved : goal.loop-i-preserved
-loop-i-preserved c =
-    let l = c.loop-i in
-    l.invariant ∙ good _ l.i c.loop-i-test.true c.if-decisions-i-gt1.false
-
-pub returns : goal.returns
-returns c = sym (ap checked (c.loop-i.invariant ∙ bad_decision-none _ c.loop-i.i c.loop-i-test.false))
+pub returns-in-None : goal.returns-in-None
+returns-in-None c =
+    let found = position_from_yields_List (ltb 1) _ _ c.position.result c.position.ensures.ran
+    (YieldsList-from_slice _ c.iter.ensures.rest) (λ x b q k. search (rules, tests)) in
+    by_position c.args.decisions.now _ (sym c.in-None.is ∙ found)

@@ -14,7 +14,7 @@ returns-then-offset-at c =
     let l = c.loop-item in
     let x = c.args in
     let s = cursor_starting x.text.now x.offset l.at no_count
-    (sym c.in-Item.is ∙ c.next_item.ensures) in
+    (sym c.in-Some.is ∙ c.next_item.ensures) in
     sym (s.3 c.if-offset-at.true) ∙ l.invariant.1
 
 pub loop-item-smaller : goal.loop-item-smaller
@@ -22,7 +22,7 @@ loop-item-smaller c =
     let l = c.loop-item in
     let x = c.args in
     let s = cursor_starting x.text.now x.offset l.at no_count
-    (sym c.in-Item.is ∙ c.next_item.ensures) in
+    (sym c.in-Some.is ∙ c.next_item.ensures) in
     omega (arith, s.0, s.1)
 
 pub loop-item-preserved : goal.loop-item-preserved
@@ -30,7 +30,7 @@ loop-item-preserved c =
     let l = c.loop-item in
     let x = c.args in
     let s = cursor_starting x.text.now x.offset l.at no_count
-    (sym c.in-Item.is ∙ c.next_item.ensures) in
+    (sym c.in-Some.is ∙ c.next_item.ensures) in
     (s.1, sym (s.2 c.if-offset-at.false) ∙ l.invariant.1)
 
 pub returns : goal.returns

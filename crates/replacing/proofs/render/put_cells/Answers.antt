@@ -1,4 +1,4 @@
-use mathlib.Core.Path.{ap}
+use mathlib.Core.Path.{ap, ◌∙◌}
 use mathlib.Core.List.{List, map}
 use Prim.Native.Nat.{◌+◌, ◌/◌, ◌%◌}
 use native.Mathlib.Omega.{arith}
@@ -9,15 +9,14 @@ use Rattle.emoji.specs.declared.presentation.Presentation.{Presentation}
 use Rattle.analysis.specs.Cells.{Cell}
 use Rattle.analysis.specs.Helpers.{cell_bytes}
 use Rattle.analysis.specs.Decisions.{meaning}
-use Rattle.analysis.proofs.CellsAt.{read_end, split_at}
+use Rattle.analysis.proofs.CellsAt.{selectors_end, split_at}
 use Rattle.analysis.proofs.Rendering.{bytes_from-cell, bytes_from-leading, bytes_from-none, used-few}
 use Rattle.replacing.proofs.render.put_cells.Goals as goal
 
 pub loop-policy-init : goal.loop-policy-init
 loop-policy-init c =
     let x = c.args in
-    let r = c.consume_presentation_selectors-start in
-    let e = read_end x.text.now 0 r.result r.ensures in (
+    let e = c.selectors_end-at.ensures ∙ selectors_end x.text.now 0 in (
       omega arith,
       ap (λ (a : List Presentation × List Cell). a.0) (split_at x.text.now 0 e),
       pass _ _ _ _ _ (begin _ _ _ (let h = c.requires in omega arith)) (bytes_from-leading x.policy x.text.now x.decisions.now 0 0 e),

@@ -1,6 +1,6 @@
 -- `replacing::render::put_char` meets its contract: if there is room for a scalar value, `write_char` writes it.
 use native.Mathlib.Omega.{arith}
-use Rattle.analysis.proofs.Rendering.{char_put, not_refused, not_short, width_is}
+use Rattle.analysis.proofs.Rendering.{char_put, not_error, width_is}
 use Rattle.replacing.proofs.render.put_char.Goals as goal
 
 pub overflow_add-result : goal.overflow_add-result
@@ -8,23 +8,17 @@ overflow_add-result c =
     let x = c.args in
     let w = c.write_char in
     let r = c.requires.1 in
-    omega (arith, width_is x.ch x.out.now x.at c.requires.0 r w.result w.ensures.answer.same c.in-Written.width c.in-Written.is)
+    omega (arith, width_is x.ch x.out.now x.at c.requires.0 r w.result w.ensures.answer.same c.in-Ok.width c.in-Ok.is)
 
-pub returns-in-Written : goal.returns-in-Written
-returns-in-Written c =
+pub returns-in-Ok : goal.returns-in-Ok
+returns-in-Ok c =
     let x = c.args in
     let w = c.write_char in
-    char_put x.ch x.out.now x.at c.requires.0 c.requires.1 w.result w.ensures.answer.same c.in-Written.width _ c.in-Written.is
+    char_put x.ch x.out.now x.at c.requires.0 c.requires.1 w.result w.ensures.answer.same c.in-Ok.width _ c.in-Ok.is
     w.ensures.buffer
 
-pub returns-in-TooShort : goal.returns-in-TooShort
-returns-in-TooShort c =
+pub returns-in-Err : goal.returns-in-Err
+returns-in-Err c =
     let x = c.args in
     let w = c.write_char in
-    absurd (not_short x.ch x.out.now x.at c.requires.0 c.requires.1 w.result w.ensures.answer.same _ c.in-TooShort.is)
-
-pub returns-in-NotScalar : goal.returns-in-NotScalar
-returns-in-NotScalar c =
-    let x = c.args in
-    let w = c.write_char in
-    absurd (not_refused x.ch x.out.now x.at c.requires.0 c.requires.1 w.result w.ensures.answer.same c.in-NotScalar.is)
+    absurd (not_error x.ch x.out.now x.at c.requires.0 c.requires.1 w.result w.ensures.answer.same _ c.in-Err.is)

@@ -11,14 +11,14 @@ pub put_char-requires : goal.put_char-requires
 put_char-requires c =
     let a = c.as_selector in
     let r = c.requires in (
-      ap is_scalar a.ensures ∙ selector_scalar c.in-Selector.presentation,
-      omega (arith, ap length (bytes_selector c.args.selector c.in-Selector.presentation a.result c.in-Selector.is a.ensures)),
+      ap is_scalar a.ensures ∙ selector_scalar c.in-Some.presentation,
+      omega (arith, ap length (bytes_selector c.args.selector c.in-Some.presentation a.result c.in-Some.is a.ensures)),
     )
 
-pub returns-in-Selector : goal.returns-in-Selector
-returns-in-Selector c =
+pub returns-in-Some : goal.returns-in-Some
+returns-in-Some c =
     let a = c.as_selector in
-    put_as _ (bytes_selector c.args.selector c.in-Selector.presentation a.result c.in-Selector.is a.ensures) c.put_char.ensures
+    put_as _ (bytes_selector c.args.selector c.in-Some.presentation a.result c.in-Some.is a.ensures) c.put_char.ensures
 
-pub returns-in-NoSelector : goal.returns-in-NoSelector
-returns-in-NoSelector c = put_as _ (bytes_none c.args.selector c.in-NoSelector.is) (record { ends = omega arith; bytes = refl })
+pub returns-in-None : goal.returns-in-None
+returns-in-None c = put_as _ (bytes_none c.args.selector c.in-None.is) (record { ends = omega arith; bytes = refl })

@@ -1,7 +1,7 @@
 -- `lines::write_report` meets its contract: each of the three cases of a report fits.
+use Rattle.std.specs.Prelude.{Option}
 use mathlib.Core.Path.{ap, sym, ◌∙◌}
 use mathlib.Core.List.{List}
-use mathlib.Core.Option.{Option}
 use Prim.Native.Nat.{ℕ}
 use native.Mathlib.Omega.{arith}
 use Rattle.base.specs.declared.Refusal.{Refusal}
@@ -32,12 +32,12 @@ returns-then-message-gt-MESSAGE_LIMIT c =
     let f = front (put_as (reported m) (too_long message_limit m (intakes m) (lines m) (omega arith)) w.0) (omega (arith, w.1)) in
     record { prefix_len = f.0; out_after = f.1.0; out_unchanged = f.1.1 }
 
-pub returns-in-Refused : goal.returns-in-Refused
+pub returns-in-Err : goal.returns-in-Err
 unfolding reported
-returns-in-Refused c =
+returns-in-Err c =
     let m = c.args.message.now in
-    let e = checked_refused (intakes m) c.in-Refused.refusal (sym c.check_message.ensures ∙ c.in-Refused.is) in
-    let w = c.put_refusal-in-Refused.ensures in
+    let e = checked_refused (intakes m) c.in-Err.refusal (sym c.check_message.ensures ∙ c.in-Err.is) in
+    let w = c.put_refusal-in-Err.ensures in
     let f = front (put_as (reported m) (refused message_limit m (intakes m) (lines m) (omega arith) e) w.0) (omega (arith, w.1)) in
     record { prefix_len = f.0; out_after = f.1.0; out_unchanged = f.1.1 }
 

@@ -10,7 +10,7 @@ pub returns-then-is_emoji_modifier_by_ends : goal.returns-then-is_emoji_modifier
 returns-then-is_emoji_modifier_by_ends c e = sym (class_is
     (is_modifier (sym c.is_emoji_modifier_by_ends.ensures ∙ c.if-is_emoji_modifier_by_ends.true)))
 
-pub returns : goal.returns
-returns c e =
+pub returns-else-is_emoji_modifier_by_ends : goal.returns-else-is_emoji_modifier_by_ends
+returns-else-is_emoji_modifier_by_ends c e =
     sym (class_is (is_emoji_lem e (sym c.is_ri_by_ends.ensures ∙ c.if-is_ri_by_ends.false)
     (sym c.is_emoji_modifier_by_ends.ensures ∙ c.if-is_emoji_modifier_by_ends.false)))

@@ -9,33 +9,33 @@ use Rattle.scanner.proofs.char_runs.run_end.Goals as goal
 pub returns-then-not-in_run : goal.returns-then-not-in_run
 returns-then-not-in_run c =
     let x = c.args in
-    let k = seen x.text.now c.loop-class.end
-    (sym c.peek.ensures ∙ c.in-Char.is) in
+    let k = seen x.text.now c.loop-next.end
+    (sym c.peek.ensures ∙ c.in-Some.is) in
     let e = ap (in_run x.kind) (sym k.class) ∙ sym c.in_run.ensures
     ∙ c.if-not-in_run.true in
     omega (arith, run_over (λ y. in_run x.kind (class_of y)) k e)
 
-pub loop-class-smaller : goal.loop-class-smaller
-loop-class-smaller c =
+pub loop-next-smaller : goal.loop-next-smaller
+loop-next-smaller c =
     let x = c.args in
-    let k = seen x.text.now c.loop-class.end
-    (sym c.peek.ensures ∙ c.in-Char.is) in
+    let k = seen x.text.now c.loop-next.end
+    (sym c.peek.ensures ∙ c.in-Some.is) in
     omega (arith, k.on, k.room)
 
-pub loop-class-preserved : goal.loop-class-preserved
-loop-class-preserved c =
+pub loop-next-preserved : goal.loop-next-preserved
+loop-next-preserved c =
     let x = c.args in
-    let k = seen x.text.now c.loop-class.end
-    (sym c.peek.ensures ∙ c.in-Char.is) in
+    let k = seen x.text.now c.loop-next.end
+    (sym c.peek.ensures ∙ c.in-Some.is) in
     let e = ap (in_run x.kind) (sym k.class) ∙ sym c.in_run.ensures
     ∙ c.if-not-in_run.false in
-    c.loop-class.invariant ∙ run_on (λ y. in_run x.kind (class_of y)) k e
+    c.loop-next.invariant ∙ run_on (λ y. in_run x.kind (class_of y)) k e
 
-pub returns-in-NoChar : goal.returns-in-NoChar
-returns-in-NoChar c =
+pub returns-in_default : goal.returns-in_default
+returns-in_default c =
     let x = c.args in
     omega (
       arith,
       run_none (λ y. in_run x.kind (class_of y))
-          (unseen x.text.now c.loop-class.end (sym c.peek.ensures ∙ c.in-NoChar.is)),
+          (unseen x.text.now c.loop-next.end (sym c.peek.ensures ∙ c.in_default.is)),
     )

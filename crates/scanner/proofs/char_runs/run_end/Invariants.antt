@@ -8,9 +8,9 @@ use Rattle.scanner.specs.RunKinds.{run_of}
 use Rattle.scanner.specs.Spans.{size, width}
 use Rattle.scanner.proofs.char_runs.run_end.Given as goal
 
-abbrev pub invariant-loop-class : goal.invariant-loop-class
-invariant-loop-class l = l.at + size width (run_of l.kind (chars (drop l.at l.text))) ≡ l.end
+abbrev pub invariant-loop-next : goal.invariant-loop-next
+invariant-loop-next l = l.at + size width (run_of l.kind (chars (drop l.at l.text))) ≡ l.end
     + size width (run_of l.kind (chars (drop l.end l.text)))
 
-abbrev pub decreases-loop-class : goal.decreases-loop-class
-decreases-loop-class l = length l.text - l.end
+abbrev pub decreases-loop-next : goal.decreases-loop-next
+decreases-loop-next l = length l.text - l.end

@@ -7,24 +7,24 @@ pub overflow_add-at : goal.overflow_add-at
 overflow_add-at c =
     let x = c.args in
     let l = c.loop-at in
-    let h = selector_here x.text.now l.at c.in-Selector.field-0
-    (sym c.selector_at.ensures ∙ c.in-Selector.is) in
+    let h = selector_here x.text.now l.at c.in-Some.field-0
+    (sym c.selector_at.ensures ∙ c.in-Some.is) in
     omega (arith, h.read.room, c.well_formed.0.0)
 
 pub loop-at-smaller : goal.loop-at-smaller
 loop-at-smaller c =
     let x = c.args in
     let l = c.loop-at in
-    let h = selector_here x.text.now l.at c.in-Selector.field-0
-    (sym c.selector_at.ensures ∙ c.in-Selector.is) in
+    let h = selector_here x.text.now l.at c.in-Some.field-0
+    (sym c.selector_at.ensures ∙ c.in-Some.is) in
     omega (arith, h.read.room)
 
 pub loop-at-preserved : goal.loop-at-preserved
 loop-at-preserved c =
     let x = c.args in
     let l = c.loop-at in
-    let h = selector_here x.text.now l.at c.in-Selector.field-0
-    (sym c.selector_at.ensures ∙ c.in-Selector.is) in
+    let h = selector_here x.text.now l.at c.in-Some.field-0
+    (sym c.selector_at.ensures ∙ c.in-Some.is) in
     omega (arith, l.invariant, h.runs_on)
 
 pub returns : goal.returns

@@ -1,4 +1,5 @@
 -- `scanner::text_check::check_text` meets its contract: by the length, and by the length of the longest well-formed beginning.
+use Rattle.std.specs.Prelude.{Err}
 use mathlib.Core.Path.{refl, sym, ap, ◌∙◌}
 use Prim.Native.Nat.{ℕ}
 use native.Mathlib.Omega.{arith}
@@ -6,7 +7,6 @@ use lib.ListN.{length}
 use borrow.Author.Tests.{eq-eqb, le-leb, lt-leb, ne_eqb}
 use Rattle.base.proofs.Answering.{answers}
 use Rattle.base.specs.Refusals.{checked}
-use Rattle.base.specs.declared.Check.TheVariants.{Refused}
 use Rattle.base.specs.declared.Refusal.TheVariants.{NotWellFormed}
 use Rattle.utf8.specs.Rfc3629.{valid_up_to_of}
 use Rattle.scanner.proofs.TextTests.{text_is}
@@ -22,7 +22,7 @@ returns-then-valid_up_to-text c =
     let t = c.args.text.now in
     let v = c.valid_up_to-valid_up_to in
     let n = ne_eqb (valid_up_to_of t) (length t) (λ e. omega arith) in
-    answers (ap (λ (n : ℕ). Refused (NotWellFormed n)) v.ensures
+    answers (ap (λ (n : ℕ). Err (NotWellFormed n)) v.ensures
     ∙ sym (ap checked (text_is t (le-leb (length t) 16777216 (omega arith)) n)))
 
 pub returns : goal.returns

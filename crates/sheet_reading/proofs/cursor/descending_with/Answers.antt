@@ -2,8 +2,8 @@
 use Rattle.sheet_reading.proofs.Tracked.{down_ranged, down_single}
 use Rattle.sheet_reading.proofs.cursor.descending_with.Goals as goal
 
-pub returns-then-c : goal.returns-then-c
-returns-then-c c r h = down_ranged c.args.c r h c.if-c.true c.or_offset.ensures
+pub returns-in-Some : goal.returns-in-Some
+returns-in-Some c r h = down_ranged c.args.c r h c.in-Some.is c.or_offset.ensures
 
-pub returns : goal.returns
-returns c r h = down_single c.args.c r h c.if-c.false
+pub returns-in-None : goal.returns-in-None
+returns-in-None c r h = down_single c.args.c r h c.in-None.is

@@ -4,5 +4,6 @@ use Rattle.sheet_reading.proofs.sets.no_pieces.Goals as goal
 
 pub returns : goal.returns
 returns c =
-    no_sets _ c.none.ensures c.none-2.ensures c.none-3.ensures
-    c.none-4.ensures
+    let a = c.none.ensures in
+    let b = c.none-2.ensures in
+    no_sets _ a.ordinary_keys a.keycap_keys b.ordinary_keys b.keycap_keys

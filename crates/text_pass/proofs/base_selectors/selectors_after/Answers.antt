@@ -6,14 +6,14 @@ use Rattle.text_pass.proofs.base_selectors.selectors_after.Goals as goal
 
 pub overflow_add-at : goal.overflow_add-at
 overflow_add-at c =
-    let h = selector_here c.args.text.now c.args.at c.in-Selector.field-0 (sym c.requires ∙ c.in-Selector.is) in
+    let h = selector_here c.args.text.now c.args.at c.in-Some.field-0 (sym c.requires ∙ c.in-Some.is) in
     omega (arith, h.read.room, c.well_formed.0.0)
 
-pub returns-in-NoSelector : goal.returns-in-NoSelector
-returns-in-NoSelector c = omega (arith, no_more c.args.text.now c.args.at (sym c.requires ∙ c.in-NoSelector.is))
+pub returns-in-None : goal.returns-in-None
+returns-in-None c = omega (arith, no_more c.args.text.now c.args.at (sym c.requires ∙ c.in-None.is))
 
-pub returns-in-Selector : goal.returns-in-Selector
-returns-in-Selector c =
-    let h = selector_here c.args.text.now c.args.at c.in-Selector.field-0
-    (sym c.requires ∙ c.in-Selector.is) in
+pub returns-in-Some : goal.returns-in-Some
+returns-in-Some c =
+    let h = selector_here c.args.text.now c.args.at c.in-Some.field-0
+    (sym c.requires ∙ c.in-Some.is) in
     omega (arith, h.runs_on, c.selectors_end.ensures)

@@ -11,10 +11,10 @@ use Rattle.text_pass.proofs.Walking.{entry_changes, no_entry_changes}
 use Rattle.text_pass.proofs.findings.cell_changes.Goals as goal
 
 pub kept_number-requires : goal.kept_number-requires
-kept_number-requires c = (c.requires ∙ c.in-At.is, c.number_of-number.ensures.1)
+kept_number-requires c = (c.requires ∙ c.in-Some.is, c.number_of-number.ensures.1)
 
-pub returns-in-At : goal.returns-in-At
-returns-in-At c =
+pub returns-in-Some : goal.returns-in-Some
+returns-in-Some c =
     let x = c.args in
     let i = c.number_of-number in
     let a = c.kept_number in
@@ -23,8 +23,8 @@ returns-in-At c =
     λ s f b. entry_changes (policy_of x.policy.now) x.base x.next s x.first (selector_of a.result) x.bytes
     c.is_change.result f b (a.ensures.kept x.first i.ensures.0) q
 
-pub returns-in-NoEntry : goal.returns-in-NoEntry
-returns-in-NoEntry c =
+pub returns-in-None : goal.returns-in-None
+returns-in-None c =
     let x = c.args in
     λ s f b. no_entry_changes (policy_of x.policy.now) x.base x.next s x.bytes
-    (c.requires ∙ c.in-NoEntry.is) b
+    (c.requires ∙ c.in-None.is) b

@@ -28,7 +28,7 @@ use Rattle.text_pass.proofs.Walking.{
   walking_on,
   walking-passes,
 }
-use Rattle.text_pass.proofs.findings.walk_items.Goals.{then-cell, else-cell, in-On, in-Stop+else-ends_after+in_default}
+use Rattle.text_pass.proofs.findings.walk_items.Goals.{then-cell, else-cell, in-Some, in-None+else-ends_after+in_default}
 use Rattle.text_pass.proofs.findings.walk_items.Goals as goal
 
 pub overflow_add-at : goal.overflow_add-at
@@ -77,7 +77,7 @@ returns-then-ends_after c =
       | else-cell w ↦ as_changed c.loop-changed.changed w.if-cell.false w.changed-is
     ] in
     let y = keeps_on l r (omega (arith, c.well_formed.0.0)) c.is_wanted-wanted.ensures c.add_cell-counts.ensures in
-    let e = sym c.transition.ensures ∙ c.in-Stop.is in
+    let e = sym c.transition.ensures ∙ c.in-None.is in
     (l.passed, λ _. walking-finds l r d e y c.ends_after.ensures c.if-ends_after.true, λ f. absurd (true≢false f))
 
 pub returns-in-Plain : goal.returns-in-Plain
@@ -88,7 +88,7 @@ returns-in-Plain c =
       | then-cell w ↦ now_changed c.loop-changed.changed w.if-cell.true w.changed-is
       | else-cell w ↦ as_changed c.loop-changed.changed w.if-cell.false w.changed-is
     ] in
-    let e = sym c.transition.ensures ∙ c.in-Stop.is in
+    let e = sym c.transition.ensures ∙ c.in-None.is in
     let a = walking-passes l r d e c.ends_after.ensures c.if-ends_after.false c.findings_of-passed.ensures.0 in
     (a, λ f. absurd (true≢false (sym f)), λ _. omega (arith, l.passed.advances.on, further l r))
 
@@ -102,8 +102,8 @@ overflow_add-at-in-loop-changed c =
     ] in
     let t = c.transition.ensures in
     let n : 1 ≤ c.read_cell-cell.result.packed = elim c.match-transition.branch [
-      | in-On w ↦ on-char l r d w.in-On.next (sym t ∙ w.in-On.is)
-      | in-Stop+else-ends_after+in_default w ↦
+      | in-Some w ↦ on-char l r d w.in-Some.next (sym t ∙ w.in-Some.is)
+      | in-None+else-ends_after+in_default w ↦
           let b = w.start_state_by_row-state in
           begin-char l r d (λ e. not_plain b.result (opened w.in_default.in_default-own.keys2) (b.ensures ∙ e))
     ] in
@@ -120,8 +120,8 @@ loop-changed-smaller c =
     ] in
     let t = c.transition.ensures in
     let n : 1 ≤ c.read_cell-cell.result.packed = elim c.match-transition.branch [
-      | in-On w ↦ on-char l r d w.in-On.next (sym t ∙ w.in-On.is)
-      | in-Stop+else-ends_after+in_default w ↦
+      | in-Some w ↦ on-char l r d w.in-Some.next (sym t ∙ w.in-Some.is)
+      | in-None+else-ends_after+in_default w ↦
           let b = w.start_state_by_row-state in
           begin-char l r d (λ e. not_plain b.result (opened w.in_default.in_default-own.keys2) (b.ensures ∙ e))
     ] in
@@ -139,9 +139,9 @@ loop-changed-preserved c =
     let y = keeps_on l r (omega (arith, c.well_formed.0.0)) c.is_wanted-wanted.ensures c.add_cell-counts.ensures in
     let t = c.transition.ensures in
     elim c.match-transition.branch [
-      | in-On w ↦ rw (w.start-is, w.state-is, w.changed-is, w.passed-is) (walking_on l r d y w.in-On.next (sym t ∙ w.in-On.is))
-      | in-Stop+else-ends_after+in_default w ↦
-          let e = sym t ∙ w.in-Stop.is in
+      | in-Some w ↦ rw (w.start-is, w.state-is, w.changed-is, w.passed-is) (walking_on l r d y w.in-Some.next (sym t ∙ w.in-Some.is))
+      | in-None+else-ends_after+in_default w ↦
+          let e = sym t ∙ w.in-None.is in
           let b = w.start_state_by_row-state in
           rw (w.start-is, w.state-is ∙ b.ensures, w.changed-is, w.passed-is)
           (walking-again l r d e

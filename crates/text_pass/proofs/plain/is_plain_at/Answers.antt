@@ -1,46 +1,32 @@
--- `text_pass::plain::is_plain_at` meets its contract: the first bytes determine the class (`plain_lead` of `PlainText`).
-use Rattle.text_pass.proofs.PlainText.{plain_lead}
-use Rattle.utf8.proofs.Places.{step}
-use borrow.Author.Tests.{eq-eqb, not-true}
-use lib.Seq.{get_or-drop}
-use lib.ListN.{drop, get_or}
-use native.Mathlib.Omega.{arith}
-use Prim.Native.Nat.{ℕ}
-use mathlib.Core.Bool.{true≢false}
+-- `text_pass::plain::is_plain_at` meets its contract: what the first bytes leave open is no base, link or selector (`plain_lead`).
+use mathlib.Core.List.{List}
 use mathlib.Core.Path.{◌≡◌, ap, sym, ◌∙◌}
+use Prim.Native.Nat.{ℕ}
+use native.Mathlib.Omega.{arith}
+use borrow.Author.Tests.{eq-eqb, not-true}
+use mathlib.Core.Bool.{true≢false}
+use lib.ListN.{drop, get_or}
+use lib.Seq.{get_or-drop}
+use Rattle.utf8.proofs.Places.{step}
+use Rattle.text_pass.proofs.PlainText.{plain_lead}
 use Rattle.text_pass.proofs.plain.is_plain_at.Goals as goal
 
-pub returns-then-first-lt195 : goal.returns-then-first-lt195
-returns-then-first-lt195 c = λ e v w r. absurd (true≢false (sym e))
-
-pub returns-then-first-gt238 : goal.returns-then-first-gt238
-returns-then-first-gt238 c = λ e v w r. absurd (true≢false (sym e))
-
-pub returns-then-first : goal.returns-then-first
-returns-then-first c = λ e v w r. absurd (true≢false (sym e))
+-- The byte at an offset is the first of the bytes from there on.
+byte_is : (text : List ℕ) (at : ℕ) → get_or text at 0 ≡ get_or (drop at text) 0 0
+byte_is text at = ap (λ (n : ℕ). get_or text n 0) (omega arith) ∙ sym (get_or-drop at text 0 0)
 
 pub returns-then-second : goal.returns-then-second
-returns-then-second c = λ e v w r. absurd (true≢false (sym e))
-
-pub returns-then-first-2 : goal.returns-then-first-2
-returns-then-first-2 c =
+returns-then-second c =
     let x = c.args in
-    let e : get_or x.text.now x.at 0 ≡ get_or (drop x.at x.text.now) 0 0 = ap (λ (n : ℕ). get_or x.text.now n 0) (omega arith)
-    ∙ sym (get_or-drop x.at x.text.now 0 0) in
-    λ f v w r. plain_lead (step x.text.now x.at v w r) (get_or x.text.now x.at 0) e
-    (omega (arith, c.if-first-lt195.false)) (omega (arith, c.if-first-gt238.false))
-    c.if-first.false
+    λ f v w r. plain_lead (step x.text.now x.at v w r) _ (byte_is x.text.now x.at) (omega arith) (omega arith) (λ y. omega (arith, y))
     (λ _. (
-      λ y. c.if-second.false (c.byte_at-second.ensures ∙ y),
+      λ y. c.if-second.true (c.byte_at-second.ensures ∙ y),
       λ y. true≢false
           (sym (eq-eqb _ 0x8A (c.byte_at-second.ensures ∙ y)) ∙ not-true _ f),
     ))
 
-pub returns : goal.returns
-returns c =
+pub returns-in_default : goal.returns-in_default
+returns-in_default c =
     let x = c.args in
-    let e : get_or x.text.now x.at 0 ≡ get_or (drop x.at x.text.now) 0 0 = ap (λ (n : ℕ). get_or x.text.now n 0) (omega arith)
-    ∙ sym (get_or-drop x.at x.text.now 0 0) in
-    λ f v w r. plain_lead (step x.text.now x.at v w r) (get_or x.text.now x.at 0) e
-    (omega (arith, c.if-first-lt195.false)) (omega (arith, c.if-first-gt238.false)) c.if-first.false
-    (λ y. absurd (c.if-first-2.false y))
+    λ f v w r. plain_lead (step x.text.now x.at v w r) _ (byte_is x.text.now x.at) (omega arith) (omega arith) (λ y. omega (arith, y))
+    (λ y. absurd (omega (arith, y)))

@@ -1,9 +1,0 @@
--- `crc_32` is safe and ends: in each turn the rest of the text becomes shorter.
-use Rattle.std.proofs.Common.{◌-◌, length}
-use Rattle.published_data.proofs.checksum.crc_32.Given as goal
-
-abbrev pub invariant-loop-i : goal.invariant-loop-i
-invariant-loop-i l = Unit {0}
-
-abbrev pub decreases-loop-i : goal.decreases-loop-i
-decreases-loop-i l = length l.text - l.i

@@ -1,9 +1,0 @@
--- `total` is safe and ends: in each turn fewer kinds are left.
-use Rattle.std.proofs.Common.{◌-◌}
-use Rattle.vectors.proofs.report.total.Given as goal
-
-abbrev pub invariant-loop-kind : goal.invariant-loop-kind
-invariant-loop-kind l = Unit {0}
-
-abbrev pub decreases-loop-kind : goal.decreases-loop-kind
-decreases-loop-kind l = l.end - l.kind
