@@ -19,7 +19,7 @@ pub const WORD_BYTES: usize = 8;
 pub const TEXT_LIMIT: usize = 16_777_216;
 
 // The reason why a call is refused, with the value that is returned: a row of document 01's table, with those of
-// document 02. The functions in refusals.rt give the number and the value.
+// document 02. The methods in refusals.rt give the number and the value.
 #[derive(Clone, Copy, Debug, PartialEq, Eq)]
 pub enum Refusal {
     TextTooLong,
@@ -108,6 +108,7 @@ pub fn write_bytes(out: &mut [u8], at: usize, bytes: &[u8]) -> bool
 
 // Writes the eight bytes of a number at an offset and returns true. Without room for them it returns false and changes
 // nothing.
+#[tactic(auto, using(crate::proofs::Words::le_word))]
 pub fn write_word(out: &mut [u8], at: usize, x: u64) -> bool
     ensures { (result ≡ has_room out.old at)
         × (out.new ≡ cond (has_room out.old at) (sets out.old at (word_bytes x)) out.old) }
@@ -116,6 +117,7 @@ pub fn write_word(out: &mut [u8], at: usize, x: u64) -> bool
 }
 
 // Stores the eight bytes of a `usize` at an offset.
+#[tactic(auto, using(crate::proofs::Words::le_word))]
 fn put_number(out: &mut [u8], at: usize, n: usize)
     requires { at + 8 ≤ length out.old }
     ensures { out.new ≡ sets out.old at (word_bytes n) }
