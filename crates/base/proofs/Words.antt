@@ -6,7 +6,7 @@ use Prim.Native.Nat.{ℕ, zero, suc, ◌+◌, ◌*◌, ◌/◌, ◌%◌, ◌^◌
 use native.Mathlib.Nat.{add-zero, pow-suc}
 use native.Mathlib.Omega.{arith}
 use lib.Dec.{leb}
-use lib.ListN.{drop, get_or, length, length-drop, replicate, take}
+use lib.ListN.{drop, get_or, length, length-drop, take}
 use lib.Seq.{get_or-drop, length-take-le, sets}
 use borrow.Author.Tests.{le-leb, leb-true}
 use Rattle.base.proofs.Tests.{and_both, both_true}
@@ -60,19 +60,6 @@ number-eight (a ∷ b ∷ c ∷ d ∷ xs) = omega arith
 -- std's number of eight bytes is their number. A byte after the end counts as 0.
 pub le_number : (xs : List ℕ) → from_le_bytes w64 xs ≡ number (take 8 xs)
 le_number xs = omega (arith, number-eight xs, number_four xs, number_four_at 4 xs)
-
--- Zeros after bytes do not change their number.
-number-zeros : (k i : ℕ) → number (drop i (replicate k 0)) ≡ 0
-unfolding number
-number-zeros zero zero = refl
-number-zeros zero (suc i) = refl
-number-zeros (suc k) zero = omega (arith, number-zeros k 0)
-number-zeros (suc k) (suc i) = number-zeros k i
-
-pub number_padded : (xs : List ℕ) (k i : ℕ) → number (xs ++ drop i (replicate k 0)) ≡ number xs
-unfolding number
-number_padded [] k i = number-zeros k i
-number_padded (x ∷ xs) k i = ap (λ (n : ℕ). x + 256 * n) (number_padded xs k i)
 
 -- std's bytes of a number are its eight bytes.
 pub le_word : (x : ℕ) → to_le_bytes w64 x ≡ word_bytes x

@@ -54,14 +54,25 @@ pub fn has_bit(w: u64, i: usize) -> bool
     (w >> (i % 64)) % 2 == 1
 }
 
-// Returns the byte at offset at + i, or 0 if the slice ends before it.
+// Returns the byte at offset at + i, or 0 if the slice ends before it. It tests offsets: a loop that reads three bytes by
+// `get` tests the length for each of them, and takes twice as many instructions.
 pub fn byte_at(s: &[u8], at: usize, i: usize) -> u8
     ensures { result ≡ get_or (drop at s.now) i 0 }
 {
-    let Some(rest) = s.get(at..) else {
-        return 0;
-    };
-    rest.get(i).copied().unwrap_or(0)
+    if at < s.len() && i < s.len() - at {
+        s[at + i]
+    } else {
+        0
+    }
+}
+
+// Returns the number that four bytes encode, lowest byte first. A byte after the end counts as 0.
+fn half(s: &[u8], at: usize) -> u64
+    ensures { (result ≡ number (take 4 (drop at s.now))) × (result ≤ 0xFFFFFFFF) }
+{
+    u64::from(byte_at(s, at, 0))
+        + 256 * u64::from(byte_at(s, at, 1))
+        + 65536 * (u64::from(byte_at(s, at, 2)) + 256 * u64::from(byte_at(s, at, 3)))
 }
 
 // Returns the number that fewer than eight bytes encode.
@@ -69,9 +80,7 @@ fn short_word(bytes: &[u8]) -> u64
     requires { length bytes.now < 8 }
     ensures { result ≡ number bytes.now }
 {
-    let mut word = [0; WORD_BYTES];
-    word[..bytes.len()].copy_from_slice(bytes);
-    u64::from_le_bytes(word)
+    half(bytes, 0) + 0x1_0000_0000 * half(bytes, 4)
 }
 
 // Returns the number that the eight bytes from the offset `at` encode. A byte after the end counts as 0.
@@ -87,12 +96,44 @@ pub fn read_word(s: &[u8], at: usize) -> u64
     }
 }
 
-// Stores bytes at an offset.
-fn put_bytes(out: &mut [u8], at: usize, bytes: &[u8])
-    requires { at + length bytes.now ≤ length out.old }
-    ensures { out.new ≡ sets out.old at bytes.now }
+// Stores the eight bytes of a number.
+#[tactic(auto, using(crate::proofs::Words::le_word))]
+fn put_word(out: &mut [u8], at: usize, x: u64)
+    requires { at + 8 ≤ length out.old }
+    ensures { out.new ≡ sets out.old at (word_bytes x) }
 {
-    out[at..at + bytes.len()].copy_from_slice(bytes);
+    out[at..at + WORD_BYTES].copy_from_slice(&x.to_le_bytes());
+}
+
+// Copies bytes to an offset, one by one.
+fn put_each(out: &mut [u8], start: usize, bytes: &[u8])
+    requires { start + length bytes.now ≤ length out.old }
+    ensures { out.new ≡ sets out.old start bytes.now }
+{
+    let mut at = start;
+    for byte in bytes {
+        out[at] = *byte;
+        at += 1;
+    }
+}
+
+// Copies bytes to an offset, eight at a time. The last eight end where the bytes end, so they may overlap the eight
+// before them. `copy_from_slice` of all bytes is a call of `memmove`, which hosts in C would have to link.
+fn put_bytes(out: &mut [u8], start: usize, bytes: &[u8])
+    requires { start + length bytes.now ≤ length out.old }
+    ensures { out.new ≡ sets out.old start bytes.now }
+{
+    if bytes.len() < WORD_BYTES {
+        put_each(out, start, bytes);
+        return;
+    }
+    let last = bytes.len() - WORD_BYTES;
+    let mut i = 0;
+    while i < last {
+        put_word(out, start + i, read_word(bytes, i));
+        i += WORD_BYTES;
+    }
+    put_word(out, start + last, read_word(bytes, last));
 }
 
 // Writes bytes at an offset and returns true. Without room for them it returns false and changes nothing.
@@ -117,12 +158,11 @@ pub fn write_word(out: &mut [u8], at: usize, x: u64) -> bool
 }
 
 // Stores the eight bytes of a `usize` at an offset.
-#[tactic(auto, using(crate::proofs::Words::le_word))]
 fn put_number(out: &mut [u8], at: usize, n: usize)
     requires { at + 8 ≤ length out.old }
     ensures { out.new ≡ sets out.old at (word_bytes n) }
 {
-    put_bytes(out, at, &n.to_le_bytes());
+    put_word(out, at, n as u64);
 }
 
 // Stores numbers from an offset on, eight bytes each.

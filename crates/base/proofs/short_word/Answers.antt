@@ -1,16 +1,12 @@
--- `base::short_word` meets its contract: the zeros after the bytes do not change their number (`number_padded`).
-use Rattle.std.proofs.Common.{arith}
-use Rattle.std.proofs.lemmas.Grind.{common_steps}
-use lib.ListN.{length}
-use Rattle.base.proofs.Words.{le_number, number_padded}
+-- `base::short_word` meets its contract: two numbers of four bytes make the number of eight (`number-eight`), and there are no more.
+use mathlib.Core.Path.{ap}
+use native.Mathlib.Omega.{arith}
+use lib.Seq.{take_all}
+use Rattle.base.specs.Words.{number}
+use Rattle.base.proofs.Words.{number-eight}
 use Rattle.base.proofs.short_word.Goals as goal
 
 pub returns : goal.returns
-returns c = grind (
-  arith,
-  common_steps,
-  number_padded c.args.bytes.now 8 (length c.args.bytes.now),
-  c.copy_from_slice.ensures,
-  c.from_le_bytes.ensures,
-  le_number,
-)
+returns c =
+    let b = c.args.bytes.now in
+    omega (arith, number-eight b, ap number (take_all 8 b (omega (arith, c.requires))), c.half.ensures, c.half-2.ensures)
