@@ -1,5 +1,5 @@
 -- The refusals of document 01's table ("Turned back"), and the contents of a lent buffer after a call.
-use Rattle.std.specs.Prelude.{List, [], ◌∷◌, ◌++◌, ℕ, drop, length, ⊤, Option, None, Some, Result, Ok, Err}
+use Rattle.std.specs.Prelude.{List, [], ◌∷◌, ◌++◌, ℕ, codes, decimal, drop, length, ⊤, Option, None, Some, Result, Ok, Err}
 use Rattle.std.specs.Option.{unwrap_or}
 use Rattle.base.specs.declared.Refusal.{Refusal}
 use Rattle.base.specs.declared.Refusal.TheVariants.{
@@ -55,6 +55,15 @@ refusal_table NotAnEntryList = record { number = 16; returned = None }
 pub record RefusalRow : Type 0 where
   pub number : ℕ
   pub value : ℕ
+
+-- A value that a refusal returns, after a blank.
+abbrev pub value_words : Option ℕ → List ℕ
+value_words None = []
+value_words (Some n) = codes " " ++ decimal n
+
+-- The words of a refusal, as a host prints them: "refused", its number and, if a value is returned, the value.
+abbrev pub refusal_words : Refusal → List ℕ
+refusal_words r = codes "refused " ++ decimal (refusal_table r).number ++ value_words (refusal_table r).returned
 
 -- The row of a refusal as two numbers. The value is 0 where the table says "nothing more".
 abbrev pub refusal_row : Refusal → RefusalRow

@@ -1,7 +1,7 @@
 // Document 01's table of refusals in code: the number of a refusal, and the value that is returned with it. The table itself is
 // `refusal_table` in specs/Refusals.antt. A new row of that table needs a new arm in each method of this file.
-ghost use Rattle.std.specs.Prelude.{◌≡◌, ◌≤◌};
-ghost use Rattle.base.specs.Refusals.{refusal_table};
+ghost use Rattle.std.specs.Prelude.{◌≡◌, ◌≤◌, Some};
+ghost use Rattle.base.specs.Refusals.{refusal_table, refusal_words};
 
 use crate::Refusal;
 use std::error::Error;
@@ -60,6 +60,8 @@ impl Refusal {
 
 // The words of the programs' refusal line: "refused", the number and, if there is one, the value.
 impl fmt::Display for Refusal {
+    ghost output = { λ r. Some (refusal_words r) };
+
     fn fmt<W: fmt::Write>(&self, f: &mut fmt::Formatter<W>) -> fmt::Result {
         write!(f, "refused {}", self.number())?;
         if let Some(value) = self.value() {
