@@ -78,6 +78,7 @@ fn count(part: &[u8]) -> TextCount
 }
 
 // The characters and units from one offset up to another. Each byte between them is read once, and no other byte is read.
+#[tactic(auto, using(crate::proofs::Counting::stretch_within), unfolding(crate::specs::Positions::count_between, crate::specs::Positions::stretch))]
 pub fn count_between(text: &[u8], from: usize, to: usize) -> TextCount
     ensures { result ≡ count_between text.now from to }
 {
