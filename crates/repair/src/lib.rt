@@ -8,7 +8,7 @@ ghost use Rattle.base.specs.Answers.{EndsAs};
 ghost use Rattle.base.specs.Output.{PutAt};
 ghost use Rattle.base.specs.Refusals.{text_limit};
 ghost use Rattle.repair.specs.Repair.{repair, repair_row};
-ghost use Rattle.repair.specs.Repaired.{repaired, replacements};
+ghost use Rattle.repair.specs.Repaired.{repaired, replacement_bytes, replacements};
 
 use base::{Refusal, TEXT_LIMIT};
 
@@ -52,6 +52,14 @@ fn put(bytes: &[u8], out: &mut [u8], at: usize) -> usize
     at + bytes.len()
 }
 
+// Puts the bytes of FFFD into the output, which has room for them, and returns where they end there.
+fn put_replacement(out: &mut [u8], at: usize) -> usize
+    requires { at + 3 ≤ length out.old }
+    ensures { PutAt out.old at replacement_bytes out.new result }
+{
+    put(&REPLACEMENT, out, at)
+}
+
 // Writes the repaired text of a text within the limit into an output that has room for it.
 fn write_repaired(text: &[u8], out: &mut [u8]) -> Repaired
     requires { (length text.now ≤ text_limit) × (length (repaired text.now) ≤ length out.old) }
@@ -67,7 +75,7 @@ fn write_repaired(text: &[u8], out: &mut [u8]) -> Repaired
         if text.len() <= stop {
             return Repaired { len, replaced };
         }
-        len = put(&REPLACEMENT, out, len);
+        len = put_replacement(out, len);
         replaced += 1;
         at = stop + utf8::bad_width(text, stop);
     }

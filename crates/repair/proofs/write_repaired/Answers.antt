@@ -38,8 +38,8 @@ returns-then-text-stop c =
     let z = ended t e.result c.if-text-stop.true in
     record { len = finish (repaired t) 0 x.out.now _ w z.bytes; replaced = omega (arith, l.invariant.2, k.number, z.number) }
 
-pub put-len-requires-in-loop-at : goal.put-len-requires-in-loop-at
-put-len-requires-in-loop-at c =
+pub put_replacement-len-requires : goal.put_replacement-len-requires
+put_replacement-len-requires c =
     let e = c.valid_end-stop in
     let l = c.loop-at in
     let x = c.args in
@@ -90,6 +90,6 @@ loop-at-preserved c =
     let bad = k.stops c.if-text-stop.false in
     let r = replaced t e.result c.bad_width.result k.room bad c.bad_width.ensures in (
       r.room,
-      put (repaired t) 0 x.out.now {xs = replacement_bytes} _ _ w c.put-len-in-loop-at.ensures r.bytes,
+      put (repaired t) 0 x.out.now {xs = replacement_bytes} _ _ w c.put_replacement-len.ensures r.bytes,
       omega (arith, l.invariant.2, k.number, r.number),
     )
