@@ -151,7 +151,7 @@ def misfits_of(program, texts):
     if len(named) != 1:
         yield f"it has {len(named)} lines `refused by: PLACE: NAME`"
     for place, name in named:
-        yield from unknown_place(crate, place, name, [new for _, _, new in replacements(program)])
+        yield from unknown_place(crate, place, name)
 
 
 def not_apart(programs):
@@ -220,9 +220,9 @@ def modules(path):
     return [] if below in (["lib"], ["main"]) else below
 
 
-def unknown_place(crate, place, name, written):
-    """The fault of a place: it is neither a file of proofs/ that declares the name, nor a function of the crate or of what the edit writes.
-    A proof that walks the code names all that it proves; else a goal has an answer in a file only if the prover does not find it alone."""
+def unknown_place(crate, place, name):
+    """The fault of a place: it is neither a file of proofs/ that declares the name, nor a function. A proof that walks the code names all
+    that it proves; else a goal has an answer in a file only if the prover does not find it alone."""
     below = place.replace("::", "/")
     for path in (crate / "proofs" / f"{below}.antt", crate / "proofs" / below / "Proof.antt"):
         if path.is_file():
@@ -230,7 +230,7 @@ def unknown_place(crate, place, name, written):
                 yield f"refused by: {path.relative_to(crate)} does not declare {name}"
             return
     function = re.compile(rf"\bfn {re.escape(place.rpartition('::')[2])}\b")
-    if not any(function.search(text) for text in [*written, *(rattle(path) for path in crate.glob("src/**/*.rt"))]):
+    if not any(function.search(rattle(path)) for path in crate.glob("src/**/*.rt")):
         yield f"refused by: there is no {place}"
 
 

@@ -168,11 +168,10 @@ class Checks(unittest.TestCase):
         refused = (".edit", "pairs::pair::Pair::first", "Pair::first")
         self.assertEqual(self.findings(checks.misfits, imported, refused, sound=TOGETHER), [])
 
-    def test_function_that_an_edit_writes(self):
+    def test_function_that_the_edit_alone_writes(self):
         change = ("wrong.edit", "same: returns", "written: returns")
-        self.finds("there is no written", checks.misfits, change)
         new = ("wrong.edit", "new: ", "new: fn written() {} ")
-        self.assertEqual(self.findings(checks.misfits, change, new), [])
+        self.finds("there is no written", checks.misfits, change, new)
 
     def test_fault_of_one_program_of_an_edit(self):
         for old, new, words in (

@@ -1,6 +1,6 @@
 // The eight counts of an item, a finding and a choice: types.rs of the crate evfmt; document 01, "Counts and finding".
 // `empty`, `unsanctioned`, `is_empty` and `add` equal the definitions of specs/Counts.antt.
-ghost use Rattle.std.specs.Prelude.{◌≡◌, eqb};
+ghost use Rattle.std.specs.Prelude.{◌≡◌, ◌↔◌, true, eqb};
 ghost use Rattle.analysis.specs.Counts.{capped_sum, empty, total, unsanctioned};
 
 use base::add_count;
@@ -104,5 +104,21 @@ impl NonCanonicality {
                 rhs.presentation_decisions,
             ),
         }
+    }
+
+    // Whether two records of counts are equal.
+    pub fn eq(self, rhs: Self) -> bool
+        ensures { (result ≡ true) ↔ (self ≡ rhs) }
+    {
+        self == rhs // count by count
+    }
+}
+
+impl Finding {
+    // Whether two findings are equal.
+    pub fn eq(self, rhs: Self) -> bool
+        ensures { (result ≡ true) ↔ (self ≡ rhs) }
+    {
+        self == rhs // field by field
     }
 }
