@@ -10,7 +10,7 @@ ghost use Rattle.std.specs.Prelude.{◌≡◌, ◌+◌, ◌≤◌, length};
 ghost use Rattle.base.specs.Words.{bytes_of};
 ghost use Rattle.base.specs.Output.{PutAt, Wrote};
 ghost use Rattle.policy_key_set.specs.Sets.{word_count};
-ghost use Rattle.policy.specs.Policy.{Cleared, holds_base, rule_of, same_policy, singleton_rule};
+ghost use Rattle.policy.specs.Policy.{Cleared, holds_base, rule_of, same_policy, same_rule, singleton_rule};
 ghost use Rattle.policy.specs.DefaultPolicy.{default_policy};
 ghost use Rattle.policy.specs.PolicyBytes.{key_words, policy_bytes, policy_or_fault, read_policy, words_from};
 
@@ -35,6 +35,15 @@ pub enum SingletonRule {
     BareToText,
     TextToBare,
     EmojiToBare,
+}
+
+impl SingletonRule {
+    // Tests whether two rules are the same.
+    pub fn eq(self, rhs: Self) -> bool
+        ensures { result ≡ same_rule self rhs }
+    {
+        self == rhs
+    }
 }
 
 // Tests whether a key set holds a base: in its keycap set if `is_keycap` is true, or else in its ordinary set.
