@@ -8,7 +8,7 @@ use text_scanner::{NthItem, nth_item, nth_raw};
 fn gives_item(text: &[u8], n: usize, item: ScanItem) -> bool {
     let NthItem { verdict, step } = nth_item(text, n);
     verdict.is_ok()
-        && step == Some(item)
+        && step.is_some_and(|found| ScanItem::eq(found, item))
         && text.get(item.start..item.end) == Some(nth_raw(text, n))
 }
 
