@@ -102,7 +102,7 @@ is_policy bs = eqb (length bs) policy_length && (eqb (version_of bs) unicode_ver
 unfoldable pub policy_fault : List ℕ → Refusal
 policy_fault bs = cond (eqb (length bs) policy_length && not (eqb (version_of bs) unicode_version)) OtherVersion NotAPolicy
 
--- The refusal of bytes that are given as a policy, or `none` if they are one.
+-- The refusal of bytes that are given as a policy, or `None` if they are one.
 unfoldable pub policy_refusal : List ℕ → Option Refusal
 policy_refusal bs = cond (is_policy bs) None (Some (policy_fault bs))
 

@@ -18,7 +18,7 @@ pub use Rattle.scanner.specs.declared.state.State.TheVariants.{
   LeftOver as left_over,
 }
 
--- The state after a character of the class if the item goes on with this character; `none` if the item ends before it.
+-- The state after a character of the class if the item goes on with this character; `None` if the item ends before it.
 unfoldable pub transition : State → Class → Option State
 -- "Otherwise passthrough, up to the next selector, 200D or emoji."
 transition plain selector = None
@@ -84,7 +84,7 @@ transition left_over keycap = None
 transition left_over tag = None
 transition left_over other = None
 
--- The result of `transition` as the code's enum `Next`.
+-- The result of `transition`, as the code's function `transition` returns it.
 abbrev pub next_of : Option State → Option State
 next_of (Some q) = Some q
 next_of None = None

@@ -5,7 +5,7 @@ use Rattle.base.specs.declared.Refusal.{Refusal}
 use Rattle.base.specs.declared.Refusal.TheVariants.{NotWellFormed, TextTooLong}
 use Rattle.utf8.specs.Rfc3629.{valid_up_to_of}
 
--- The first of the tests 1 and 3 that refuses the text; `none` if the text passes both.
+-- The first of the tests 1 and 3 that refuses the text; `None` if the text passes both.
 unfoldable pub text_refusal : List ℕ → Option Refusal
 text_refusal text =
     cond (not (leb (length text) text_limit)) (Some TextTooLong)
