@@ -1,7 +1,6 @@
 -- The scanner that borrows a text and remembers one byte offset (document 01, "Item"), with the characters and UTF-16 units before it
 -- (document 02, v): how it is made, which item it answers, what it remembers after an answer, and the bytes of an item. The main
--- statement is NextGivesItems: successive calls answer the items of the text, and after them the end. The definitions that only the
--- contracts of private functions use are in specs/Helpers.antt.
+-- statement is NextGivesItems: successive calls answer the items of the text, and after them the end.
 use Rattle.std.specs.Prelude.{◌≡◌, cond, ◌&&◌, List, [], ◌∷◌, ◌++◌, ℕ, zero, suc, ◌-◌, leb, drop, length, take}
 use Rattle.std.specs.Prelude.{Ok, Err, Some, None, Result, Option, ⊤}
 use Rattle.base.specs.declared.Refusal.{Refusal}
