@@ -13,9 +13,12 @@ also a fault.
 - calls of C: no library except message_io uses io, os, libc, a part of std that calls C, or a library that uses them. Their contracts
               are axioms. `rt ci` itself refuses os and libc, and code in C.
 - misfits:    every must-fail edit can be applied, and names what must refuse it (edit_checks.py).
-- contracts:  no public function has a `requires`; each has an `ensures`, and every `ensures` is about the outcome.
+- contracts:  no public function has a `requires`; each has an `ensures`, and every `ensures` is about the outcome. A function that a
+              public type of a library has from a trait is public too. It has no `pub`, and its contract is an `ensures` of its own or
+              the ghost member of the `impl` that the trait's `ensures` cites, such as `bitor_gives` for `bitor`. A member that the
+              trait's `requires` cites, such as `can_bitor`, asks something of the callers. What is derived has the derive's own law.
 - audit:      docs/AUDIT.md has a row for every public function of a library, in the part about its crate, and every must-fail
-              edit that it names exists.
+              edit that it names exists. The table of impostors says what the edits say: the goal or lemma that refuses each.
 - theorems:   every statement of a crate's specs/ has its proof, none is open or empty, and docs/AUDIT.md lists exactly these;
               the names in it and in docs/DECISIONS.md are declared (theorem_checks.py).
 - repeated:   no definition and no law stands twice, under one name or under two (repeated_laws.py).
@@ -35,7 +38,7 @@ import re
 import sys
 
 from crate_files import libraries, listed, rattle, uses
-from edit_checks import CI_LOG, misfits, must_fail_edits, telling_nothing, wrong_programs
+from edit_checks import CI_LOG, misfits, must_fail_edits, refusers, telling_nothing, wrong_programs
 from repeated_laws import repeated_laws
 from theorem_checks import empty_statements, open_statements, other_statements, unknown_names, unproved_statements
 from unused_laws import unused_laws
@@ -54,6 +57,16 @@ LONGEST_LINE = 140
 STATIC_LIBRARY = "tilghorz_c"
 STATIC_LOG = "target/log/tilghorz_c.say"
 RULED_OUT = "## What each contract rules out\n"
+IMPOSTORS = "## Impostors\n"
+# An `impl` of a trait, after its type parameters: the trait and the type. The ghost member that begins at a place: its name.
+IMPL = re.compile(r"^( *)(?:unsafe )?impl\b", re.M)
+OF_TRAIT = re.compile(r"\s*(?:\w+::)*(\w+)(?:<[^{]*?>)?\s+for\s+(?:&(?:'\w+\s+)?(?:mut\s+)?)?(?:\w+::)*(\w+|[^{]*?)(?=[\s<{])")
+MEMBER = re.compile(r"ghost (?!use )(\w+)(?:\s*:\s*\{[^{}]*\})?\s*=\s*\{")
+# The ghost members of std's traits that say what a function gives and do not have its name; the operators of std's traits.
+SAYS = {"Display": "output", "Debug": "debug_output"}
+OPERATORS = {"BitAnd": "&", "BitOr": "|", "BitXor": "^", "Not": "!", "Add": "+", "Sub": "-", "Neg": "-", "PartialEq": "=="}
+# What a ghost member says that promises nothing: the facts that always hold, and no output.
+NO_PROMISE = ("⊤", "Unit", "Unit {0}", "None")
 NAMED_EDITS = re.compile(r"\b[Ee]dits?\s+((?:`\w+`(?:\s+of\s+\w+)?(?:,\s+|\s+and\s+)?)+)")
 
 
@@ -134,6 +147,61 @@ def public_functions(root, name):
             yield path, text, function
 
 
+def trait_functions(root, name):
+    """For each function of an `impl` of a trait for a public type of a crate: its file, the text of the file without comments and
+    tests, the trait, the type, the function's match there, and the ghost members of the `impl`."""
+    texts = {path: TESTS.sub("", rattle(path)) for path in sorted((root / "crates" / name).glob("src/**/*.rt"))}
+    types = [found for text in texts.values() for found in re.findall(r"^ *(pub )?(?:pub\(\w+\) )?(?:struct|enum) (\w+)", text, re.M)]
+    private = {one for public, one in types if not public} - {one for public, one in types if public}
+    for path, text in texts.items():
+        for impl in IMPL.finditer(text):
+            head = OF_TRAIT.match(text, after_generics(text, impl.end()))
+            if not head or head[2] in private or text.startswith("{}", text.index("{", head.end())):
+                continue
+            # rt fmt closes it on a line of its own.
+            end = re.compile(rf"^{impl[1]}\}}$", re.M).search(text, head.end()).start()
+            members = {}
+            for member in MEMBER.finditer(text, head.end(), end):
+                members[member[1]] = text[member.end() : closing(text, member.end() - 1, "{", "}") - 1].strip()
+            for function in re.compile(rf"^{impl[1]}    (?:const )?fn (\w+)", re.M).finditer(text, head.end(), end):
+                yield path, text, head[1], head[2].strip(), function, members
+
+
+def promises_nothing(member, value, lent):
+    """Whether a ghost member promises nothing of what a function gives: it always holds, its two sides are the same, or it does not
+    name what is given. That is its last argument, or one of its last two where the function changes what it is `lent`."""
+    fact, arguments = " ".join(value.split()), []
+    if function := re.match(r"λ ((?:\([^()]*\)|[^.()])*)\. ?(.*)", fact):
+        arguments, fact = re.sub(r"\((\S+)[^)]*\)", r"\1", function[1]).split(), function[2]
+    left, _, right = fact.partition(" ≡ ")
+    if fact in NO_PROMISE or left == right:
+        return True
+    given = arguments[-2:] if lent else arguments[-1:]
+    holds = member.endswith("_gives") or member.startswith("is_")
+    return holds and bool(given) and not any(re.search(rf"(?<![\w.]){re.escape(one)}(?!\w)", fact) for one in given)
+
+
+def weak_impls(root, name):
+    """The faults of the functions that the public types of a library have from traits."""
+    for path, text, trait, type_name, function, members in trait_functions(root, name):
+        found, rest = clauses(text, function.end())
+        where = f"{path.relative_to(root)}: {type_name}::{function[1]}"
+        asks = [kind for kind, _ in found if kind == "requires"]
+        asks += [one for one in members if one.startswith("can_") and not promises_nothing(one, members[one], False)]
+        if asks:
+            yield f"{where}: a function of a trait asks more of its callers than the trait: {asks[0]}"
+        says = [said for kind, said in found if kind == "ensures"]
+        lent = "&mut self" in text[function.end() : text.index(")", function.end())]
+        names = [one for one in (function[1], f"{function[1]}_gives", f"is_{function[1]}", SAYS.get(trait)) if one in members]
+        if not says and not names:
+            yield f"{where}: a function of a trait has neither an `ensures` nor a ghost member that says what it gives"
+        empty = [f"{one} = {members[one]}" for one in names if promises_nothing(one, members[one], lent)]
+        for said in [*empty, *(said for said in says if says_nothing(said))]:
+            yield f"{where}: the contract of a function of a trait says nothing about the outcome: {said[:80]}"
+        if not rest.startswith(("{", ";")):
+            yield f"{where}: the text after its clauses is not understood: {rest[:20]!r}"
+
+
 def weak_contracts(root):
     for name in listed(root):
         for path, text, function in public_functions(root, name):
@@ -149,16 +217,28 @@ def weak_contracts(root):
             if not rest.startswith(("{", ";")):
                 yield f"{where}: the text after its clauses is not understood: {rest[:20]!r}"
     for name in libraries(root):
+        yield from weak_impls(root, name)
         # A library of definitions and theorems alone has no code.
         has_code = any(re.search(r"\bfn ", rattle(path)) for path in (root / "crates" / name).glob("src/**/*.rt"))
         if has_code and not any(public_functions(root, name)):
             yield f"crates/{name}: the library has no public function"
 
 
+def rows_of(part):
+    """The cells of the rows of the tables in a part of docs/AUDIT.md."""
+    return [re.split(r"(?<!\\)\|", line)[1:-1] for line in part.splitlines() if line.startswith("|")]
+
+
 def rows_named(part):
-    """The names in the first column of the tables in a part of docs/AUDIT.md."""
-    cells = " ".join(line.split("|")[1] for line in part.splitlines() if line.startswith("|"))
-    return set(re.findall(r"\w+", " ".join(re.findall(r"`([^`]*)`", cells))))
+    """The names in the first column of the tables in a part of docs/AUDIT.md; and, with its type, each method `Type::name`, and each
+    operator before "of `Type`"."""
+    named = set()
+    for first, *_ in rows_of(part):
+        what, _, types = (re.findall(r"`([^`]*)`", one.replace("\\|", "|")) for one in first.partition(" of "))
+        for one in what + types:
+            named.update([*re.findall(r"\w+", one), tuple(one.split("::")[-2:])])
+        named.update((type_name, one) for type_name in types for one in what)
+    return named
 
 
 def unaudited_functions(root):
@@ -169,11 +249,31 @@ def unaudited_functions(root):
         for _, _, function in public_functions(root, name):
             if function[1] not in named.get(name, ()):
                 yield f"docs/AUDIT.md: {name}: {function[1]} has no row in \"What each contract rules out\""
+        for _, _, trait, type_name, function, _ in trait_functions(root, name):
+            if not {(type_name, function[1]), (type_name, OPERATORS.get(trait))} & named.get(name, set()):
+                yield f"docs/AUDIT.md: {name}: {type_name}::{function[1]} has no row in \"What each contract rules out\""
     edits = {program.label for program in wrong_programs(root)}
     for names in NAMED_EDITS.findall(audit):
         for edit in re.findall(r"`(\w+)`", names):
             if edit not in edits:
                 yield f"docs/AUDIT.md: there is no must-fail edit {edit}"
+
+
+def other_impostors(root):
+    """The rows of "Impostors" whose last column does not name what the edits of the row say must refuse them."""
+    audit = (root / "docs" / "AUDIT.md").read_text(encoding="utf-8")
+    refused = {(program.edit.parent.parent.name, program.label): refusers(program) for program in wrong_programs(root)}
+    tried = 0
+    for cells in rows_of(audit.partition(IMPOSTORS)[2].partition("\n## ")[0]):
+        edits = [(crate, label) for label, crate in re.findall(r"\bedit `(\w+)` of (\w+)", cells[1])]
+        said = re.findall(r"`([^`]+)` of `?(\w+)`?", cells[-1])
+        wanted = [(name, place.rpartition("::")[2]) for edit in edits for place, name in refused.get(edit, [])]
+        tried += len(edits)
+        if said != wanted:
+            wants = "; ".join(f"`{name}` of `{place}`" for name, place in wanted) or "nothing"
+            yield f"docs/AUDIT.md, Impostors: {cells[0].strip()}: it is refused by {wants}, and the row says {cells[-1].strip()}"
+    if not tried:
+        yield "docs/AUDIT.md, Impostors: no row names an edit"
 
 
 def ci_log(root):
@@ -233,6 +333,7 @@ SOURCE = (
     misfits,
     weak_contracts,
     unaudited_functions,
+    other_impostors,
     unproved_statements,
     open_statements,
     empty_statements,

@@ -31,12 +31,55 @@ fn private(x: u8) -> u8
     x + 1
 }
 
+pub struct Thing {}
+
 impl Thing {
     pub fn part<'a>(self, s: &'a [u8; 4], at: usize) -> &'a [u8]
         ensures first { f (record { at = at }) ≡ result }
         ensures second { s.new ≡ s.old }
     {
         &s[..]
+    }
+}
+
+impl<'a> BitOr<&'a Thing> for Thing {
+    type Output = Self;
+
+    ghost bitor_gives = { λ a b r. r ≡ record { bits = a .bits; more = b.now } };
+
+    fn bitor(self, rhs: &'a Thing) -> Self {
+        merged(self, rhs)
+    }
+}
+
+impl Iterator for Thing {
+    ghost use Rattle.one.specs.Theorems.{yields};
+
+    ghost next_gives = { yields };
+
+    ghost remaining = { λ s. at_most s.rest };
+
+    fn next(&mut self) -> Option<u8> {
+        self.pass()
+    }
+}
+
+impl Error for Thing {}
+
+struct Hidden;
+
+impl Display for Hidden {
+    fn fmt(&self, f: &mut Formatter) -> Result {
+        Ok(())
+    }
+}
+
+#[cfg(test)]
+mod tests {
+    impl Read for Slow<'_> {
+        fn read(&mut self, buf: &mut [u8]) -> usize {
+            0
+        }
     }
 }
 """,
@@ -48,7 +91,8 @@ impl Thing {
     "crates/one/must-fail/wrong.edit": "refused by: twice: returns\nfile: src/lib.rt\nold: [x, x]\nnew: [x, 0]\n",
     "crates/message_io/src/lib.rt": "pub fn get() -> u8 ensures { result ≡ 0 } { 0 }\n",
     "crates/message_io/must-fail/one.edit": "refused by: get: returns\nfile: src/lib.rt\nold: { 0 }\nnew: { 1 }\n",
-    "crates/two/src/main.rt": "fn main() {}\n",
+    "crates/two/src/main.rt": "pub struct Seen;\n\nimpl Display for Seen {\n    fn fmt(&self) -> Result {\n        Ok(())\n    }\n}\n\n"
+    "fn main() {}\n",
     "docs/DECISIONS.md": "A theorem is as `Same`.\n",
     "docs/AUDIT.md": """
 Each of `same`, `twice` and `part` has a row below.
@@ -67,6 +111,13 @@ Excludes: another letter (edit
 | `ListClaim` | `all` |
 | `FormattedClaim` | `all` |
 
+## Impostors
+
+| impostor | the wrong program as an edit | what refuses it |
+|---|---|---|
+| one that writes 0 | edit `wrong` of one | `returns` of `twice` |
+| one that gets 1 | for the code edit `one` of message_io; edit `wrong` of one | `returns` of `get`; `returns` of `twice` |
+
 ## What each contract rules out
 
 ### one
@@ -75,6 +126,8 @@ Excludes: another letter (edit
 |---|---|
 | `same`, `thing::twice` | edit `wrong` |
 | `Thing::part` | `ensures`; not as `same` |
+| `\\|` of `Thing` | `bitor_gives` |
+| `Thing::next` | `next_gives` |
 
 ### message_io
 
@@ -165,6 +218,38 @@ class Checks(unittest.TestCase):
     def test_clause_that_is_not_known(self):
         self.finds("is not understood: 'promises", checks.weak_contracts, lib_rt=("ensures second", "promises { } requires"))
 
+    def test_trait_without_a_contract(self):
+        words = "lib.rt: Thing::{}: a function of a trait has neither an `ensures` nor a ghost member that says what it gives"
+        gives = "    ghost bitor_gives = { λ a b r. r ≡ record { bits = a .bits; more = b.now } };\n\n"
+        self.finds(words.format("bitor"), checks.weak_contracts, lib_rt=(gives, ""))
+        self.finds(words.format("bitor"), checks.weak_contracts, lib_rt=("ghost bitor_gives", "ghost other"))
+        self.finds(words.format("next"), checks.weak_contracts, lib_rt=("    ghost next_gives = { yields };\n\n", ""))
+        self.finds("Hidden::fmt", checks.weak_contracts, lib_rt=("struct Hidden", "pub struct Hidden"))
+        own = "    fn bitor(self, rhs: &'a Thing) -> Self\n        ensures { result ≡ merged self rhs }\n    {\n"
+        changed = (gives + "    fn bitor(self, rhs: &'a Thing) -> Self {\n", own)
+        self.assertEqual(self.findings(checks.weak_contracts, lib_rt=changed), [])
+        self.finds("Thing::bitor: the contract of", checks.weak_contracts, lib_rt=(changed[0], own.replace("result ≡", "self ≡")))
+
+    def test_trait_with_an_empty_contract(self):
+        words = "Thing::{}: the contract of a function of a trait says nothing about the outcome: {}"
+        for empty in ("λ _ _ _. ⊤", "⊤", "λ a b r. Unit {0}", "λ a b r. a ≡ b", "λ a b (r : Thing). f r ≡ f r", "λ a b r. f a.r b"):
+            change = ("λ a b r. r ≡ record { bits = a .bits; more = b.now }", empty)
+            self.finds(words.format("bitor", f"bitor_gives = {empty}"), checks.weak_contracts, lib_rt=change)
+        self.finds(words.format("next", "next_gives = λ s r t. f s"), checks.weak_contracts, lib_rt=("{ yields }", "{ λ s r t. f s }"))
+        self.assertEqual(self.findings(checks.weak_contracts, lib_rt=("{ yields }", "{ λ s r t. r ≡ f s }")), [])
+        shown = "impl Display for Thing {\n    ghost output = { λ x. None };\n\n    fn fmt(&self) -> Result {\n        Ok(())\n    }\n}"
+        self.finds(words.format("fmt", "output = λ x. None"), checks.weak_contracts, lib_rt=("impl Error for Thing {}", shown))
+        shown = shown.replace("None", "Some (codes \"a thing\")")
+        self.assertEqual(self.findings(checks.weak_contracts, lib_rt=("impl Error for Thing {}", shown)), [])
+
+    def test_trait_that_asks_more(self):
+        words = "Thing::bitor: a function of a trait asks more of its callers than the trait: "
+        asks = "    ghost can_bitor = { λ a b. a ≡ b };\n\n    ghost bitor_gives"
+        self.finds(words + "can_bitor", checks.weak_contracts, lib_rt=("    ghost bitor_gives", asks.replace("a ≡ b", "f a < 3")))
+        self.assertEqual(self.findings(checks.weak_contracts, lib_rt=("    ghost bitor_gives", asks.replace("a ≡ b", "⊤"))), [])
+        asks = "Thing) -> Self\n        requires { f self < 3 }\n    {\n"
+        self.finds(words + "requires", checks.weak_contracts, lib_rt=("Thing) -> Self {\n", asks))
+
     def test_library_without_public_function(self):
         self.finds("has no public function", checks.weak_contracts, lib_rt=("pub fn", "pub(crate) fn"))
 
@@ -176,6 +261,25 @@ class Checks(unittest.TestCase):
 
     def test_row_in_the_part_of_another_crate(self):
         self.finds("one: same has no row", checks.unaudited_functions, AUDIT_md=("### one", "### two"))
+
+    def test_function_of_a_trait_without_row(self):
+        check = checks.unaudited_functions
+        self.finds("one: Thing::bitor has no row", check, AUDIT_md=("| `\\|` of `Thing` | `bitor_gives` |\n", ""))
+        self.finds("one: Thing::next has no row", check, AUDIT_md=("`Thing::next`", "`Other::next`"))
+        self.finds("one: Thing::bitor has no row", check, AUDIT_md=("`\\|` of `Thing`", "`\\|` of `Other`"))
+        self.finds("one: Thing::bitor has no row", check, AUDIT_md=("`\\|` of `Thing`", "`&` of `Thing`"))
+        for row in ("`Thing::bitor`", "`&`, `\\|` of `Other` and `Thing`"):
+            self.assertEqual(self.findings(check, AUDIT_md=("`\\|` of `Thing`", row)), [])
+
+    def test_impostor_that_another_proof_refuses(self):
+        check, words = checks.other_impostors, "one that writes 0: it is refused by `returns` of `twice`, and the row says"
+        self.finds(f"{words} `returns` of `same`", check, AUDIT_md=("| `returns` of `twice` |", "| `returns` of `same` |"))
+        self.finds(f"{words} `returns-2` of `twice`", check, AUDIT_md=("| `returns` of `twice` |", "| `returns-2` of `twice` |"))
+        self.finds(f"{words} the contract of `twice`", check, AUDIT_md=("| `returns` of `twice` |", "| the contract of `twice` |"))
+        self.finds("one that gets 1: it is refused by", check, AUDIT_md=("`returns` of `get`; ", ""))
+        self.finds("one that writes 0: it is refused by `shape` of `Laws`", check, wrong_edit=("twice: returns", "Laws: shape"))
+        self.finds("one that gets 1: it is refused by", check, AUDIT_md=("code edit `one` of message_io", "code edit `one` of one"))
+        self.finds("no row names an edit", check, AUDIT_md=("## Impostors\n", "## Others\n"))
 
     def test_edit_that_is_not_there(self):
         self.finds("no must-fail edit right", checks.unaudited_functions, AUDIT_md=("edit `wrong`", "edits `wrong`, `right`"))
