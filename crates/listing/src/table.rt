@@ -69,7 +69,8 @@ fn first_finding(text: &[u8], start: usize, before: TextCount, policy: Policy) -
     }
 }
 
-// Lists the findings of a text under a policy: stores them in the table in text order. The policy is given as bytes.
+// Lists the findings of a text under a policy: stores them in the table in text order. The policy is given as bytes. The loop ends with
+// the last finding, so the text after it is not analysed again.
 pub fn list_into_table(text: &[u8], policy: &[u8], table: &mut [Finding]) -> Result<usize, Refusal>
     ensures { EndsAs answer_row (list text.now policy.now table.old) result table.new }
 {
@@ -87,10 +88,11 @@ pub fn list_into_table(text: &[u8], policy: &[u8], table: &mut [Finding]) -> Res
     } = policy::read_policy(policy);
     let mut at = 0;
     let mut before = TextCount { chars: 0, units: 0 };
-    let mut place = 0;
-    while let Some(finding) = first_finding(text, at, before, read) {
+    for place in 0..findings {
+        let Some(finding) = first_finding(text, at, before, read) else {
+            return Ok(findings);
+        };
         table[place] = finding;
-        place += 1;
         at = finding.end;
         before = TextCount {
             chars: finding.char_end,

@@ -1,4 +1,4 @@
-use Rattle.std.specs.Prelude.{Err, Ok}
+use Rattle.std.specs.Prelude.{Err, None, Ok}
 use borrow.Author.Rules.{rules}
 use mathlib.Core.Path.{◌≡◌, refl, ap, ap₂, sym, ◌∙◌}
 use mathlib.Core.List.{List}
@@ -14,6 +14,7 @@ use Rattle.positions.specs.Positions.{AtPosition}
 use Rattle.positions.proofs.Counting.{at_start}
 use Rattle.formatter.specs.Findings.{finding_row, findings, listed}
 use Rattle.formatter.specs.Intake.{intake_refusal}
+use Rattle.formatter.specs.List.{list}
 use Rattle.formatter.proofs.Passing.{checked-passed, checked_refused, read-policy}
 use Rattle.formatter.proofs.Steps.{rows_from}
 use Rattle.listing.proofs.Storing.{all_stored, end_of, list-all, list-short, list_refused, stored, turn}
@@ -29,6 +30,17 @@ rows_same : (text policy : List ℕ) {p : Policy} → p ≡ policy_of policy →
 unfolding findings
 rows_same text policy e = ap (λ (p : Policy). rows_from p text 0) e
 
+-- The outcome, once all findings are stored.
+outcome : (text policy : List ℕ) (table : List Finding) {n k : ℕ} (p : Policy) {ys : List Finding}
+    → intake_refusal text policy ≡ None → n ≡ length (listed text policy) → rows_from p text 0 ≡ listed text policy → n ≤ length table
+    → ys ≡ stored (rows_from p text 0) table k → k ≡ length (rows_from p text 0)
+    → record { answer = Ok n; buffer = ys } ≡ list text policy table
+outcome text policy table {n} {k} p e c same room held all =
+    let m : k ≡ n = all ∙ ap length same ∙ sym c in
+    ap (λ (zs : List Finding). record { answer = Ok n; buffer = zs })
+    (held ∙ ap₂ (λ (rows : List Finding) (i : ℕ). stored rows table i) same m)
+    ∙ list-all text policy table e c room
+
 pub returns-in_err-intake : goal.returns-in_err-intake
 returns-in_err-intake c =
     let x = c.args in
@@ -43,12 +55,12 @@ returns-then-table-findings c =
     ends_as (list-short x.text.now x.policy.now x.table.now e (counted x.text.now x.policy.now c.count_findings-findings.ensures.findings)
     c.if-table-findings.true)
 
-pub loop-finding-init : goal.loop-finding-init
-loop-finding-init c = (zero-le, at_start c.args.text.now (omega (arith, c.well_formed)), refl, refl)
+pub loop-place-init : goal.loop-place-init
+loop-place-init c = (zero-le, at_start c.args.text.now (omega (arith, c.well_formed)), refl, refl)
 
 -- The turn of the loop: what it stores has room, and what holds after it.
 turned : (c : goal.In-Some) → let rows = rows_from c.read_policy.result.policy c.args.text.now 0 in
-    let l = c.loop-finding in
+    let l = c.loop-place in
     let f = c.in-Some.finding in
     (length rows ≤ length c.args.table.now)
     × (l.place < length rows)
@@ -58,7 +70,7 @@ turned : (c : goal.In-Some) → let rows = rows_from c.read_policy.result.policy
 turned c =
     let x = c.args in
     let t = x.text.now in
-    let l = c.loop-finding in
+    let l = c.loop-place in
     let p = c.read_policy.result.policy in
     let rows = rows_from p t 0 in
     let same = rows_same t x.policy.now (read-policy x.policy.now c.read_policy.ensures) in
@@ -72,34 +84,39 @@ pub offset_bounds-table-place : goal.offset_bounds-table-place
 offset_bounds-table-place c = let on = turned c in omega (arith, on.0, on.1, c.well_formed)
 
 pub bounds-table-place : goal.bounds-table-place
-bounds-table-place c = let on = turned c in omega (arith, on.0, on.1, c.loop-finding.auto.table)
+bounds-table-place c = let on = turned c in omega (arith, on.0, on.1, c.loop-place.auto.table)
 
-pub loop-finding-smaller : goal.loop-finding-smaller
-loop-finding-smaller c = omega (arith, (turned c).1)
-
-pub loop-finding-preserved : goal.loop-finding-preserved
-loop-finding-preserved c =
+pub loop-place-preserved : goal.loop-place-preserved
+loop-place-preserved c =
     let on = turned c in
-    let l = c.loop-finding in (
+    let l = c.loop-place in (
       omega (arith, on.1),
       on.4,
       on.3,
       ap (λ (ys : List Finding). set ys l.place c.in-Some.finding) l.invariant.3 ∙ on.2,
     )
 
+pub returns-in_default : goal.returns-in_default
+returns-in_default c =
+    let x = c.args in
+    let t = x.text.now in
+    let l = c.loop-place in
+    let p = c.read_policy.result.policy in
+    let e = checked-passed (intake_refusal t x.policy.now) (sym c.intake.ensures.same ∙ c.in_ok-intake.was) in
+    let n = counted t x.policy.now c.count_findings-findings.ensures.findings in
+    let same = rows_same t x.policy.now (read-policy x.policy.now c.read_policy.ensures) in
+    ends_as (outcome t x.policy.now x.table.now p e n same (omega (arith, c.if-table-findings.false)) l.invariant.3
+    (all_stored p t (rows_from p t 0) l.place l.at l.invariant.2 l.invariant.0
+    (sym c.in_default.is ∙ c.first_finding.ensures l.invariant.1)))
+
 pub returns : goal.returns
 returns c =
     let x = c.args in
     let t = x.text.now in
-    let q = x.policy.now in
-    let l = c.loop-finding in
+    let l = c.loop-place in
     let p = c.read_policy.result.policy in
-    let e = checked-passed (intake_refusal t q) (sym c.intake.ensures.same ∙ c.in_ok-intake.was) in
-    let n = counted t q c.count_findings-findings.ensures.findings in
-    let same = rows_same t q (read-policy q c.read_policy.ensures) in
-    let all = all_stored p t (rows_from p t 0) l.place l.at l.invariant.2 l.invariant.0
-    (sym c.in_default.is ∙ c.first_finding.ensures l.invariant.1) in
-    let k : l.place ≡ c.count_findings-findings.result.findings = all ∙ ap length same ∙ sym n in
-    ends_as (ap (λ (ys : List Finding). record { answer = Ok c.count_findings-findings.result.findings; buffer = ys })
-    (l.invariant.3 ∙ ap₂ (λ (rows : List Finding) (k : ℕ). stored rows x.table.now k) same k)
-    ∙ list-all t q x.table.now e n (omega (arith, c.if-table-findings.false)))
+    let e = checked-passed (intake_refusal t x.policy.now) (sym c.intake.ensures.same ∙ c.in_ok-intake.was) in
+    let n = counted t x.policy.now c.count_findings-findings.ensures.findings in
+    let same = rows_same t x.policy.now (read-policy x.policy.now c.read_policy.ensures) in
+    ends_as (outcome t x.policy.now x.table.now p e n same (omega (arith, c.if-table-findings.false)) l.invariant.3
+    (omega (arith, l.invariant.0, c.loop-place-test.false, n, ap length same)))
