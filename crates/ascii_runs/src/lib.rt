@@ -3,9 +3,9 @@
 // function, since it gets a `str`.
 #![tactic(auto)]
 
-ghost use Rattle.std.specs.Prelude.{◌≡◌, ◌/◌, ◌≤◌, length, nat_lt, take_while};
+ghost use Rattle.std.specs.Prelude.{◌≡◌, ◌+◌, ◌/◌, ◌≤◌, ◌<◌, get_or, length, nat_lt, take_while};
 ghost use Rattle.std.specs.Int.Count.{count_trailing_zeros};
-ghost use Rattle.ascii_runs.specs.Ascii.{ascii_end};
+ghost use Rattle.ascii_runs.specs.Ascii.{AllUpTo, ascii_end};
 
 use base::WORD_BYTES;
 
@@ -26,19 +26,45 @@ fn ascii_bytes(s: &[u8]) -> usize
     s.iter().take_while(|b| **b < 0x80).count()
 }
 
-// Returns the end of the run of ASCII bytes that starts at an offset.
+// Reads the eight bytes at the offset `at`, skips the first `passed` of them, and counts the ASCII bytes before the
+// first other byte.
+fn ascii_in_word(s: &[u8], at: usize, passed: usize) -> usize
+    requires { passed ≤ 7 }
+    ensures ascii { (AllUpTo 0x7F s.now (at + passed) result) × (passed + result ≤ 8) }
+    ensures next { passed + result < 8 → 0x7F < get_or s.now (at + passed + result) 0 }
+{
+    let high = (base::read_word(s, at) & HIGH_BITS) >> (8 * passed);
+    let left = WORD_BYTES - passed;
+    let low = zero_bytes(high);
+    if left < low {
+        return left;
+    }
+    low
+}
+
+// Returns the end of the run of ASCII bytes that starts at an offset. The bytes after the last whole word are read with the
+// last eight bytes of the text, if there are so many.
 pub fn ascii_end(s: &[u8], from: usize) -> usize
     ensures { result ≡ ascii_end s.now from }
 {
-    let Some(mut rest) = s.get(from..) else {
+    let Some(rest) = s.get(from..) else {
         return from;
     };
-    while let Some((word, after)) = rest.split_first_chunk::<WORD_BYTES>() {
-        let high = u64::from_le_bytes(*word) & HIGH_BITS;
-        if high != 0 {
-            return s.len() - rest.len() + zero_bytes(high);
-        }
-        rest = after;
+    let (words, tail) = rest.as_chunks::<WORD_BYTES>();
+    if let Some(i) = words
+        .iter()
+        .position(|word| u64::from_le_bytes(*word) & HIGH_BITS != 0)
+    {
+        let at = from + i * WORD_BYTES;
+        return at + zero_bytes(base::read_word(s, at) & HIGH_BITS);
     }
-    s.len() - rest.len() + ascii_bytes(rest)
+    if tail.is_empty() {
+        return s.len();
+    }
+    let at = s.len() - tail.len();
+    if s.len() < WORD_BYTES {
+        return at + ascii_bytes(tail);
+    }
+    let last = s.len() - WORD_BYTES;
+    at + ascii_in_word(s, last, at - last)
 }
