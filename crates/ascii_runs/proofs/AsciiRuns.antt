@@ -72,9 +72,6 @@ front (b ∷ s) = go (utf8_1 b) refl (front s)
         each zero h = ascii_up_to b e
         each (suc k) h = f.ascii k (omega arith)
 
-pub ascii_bytes_le : (s : List ℕ) → ascii_bytes s ≤ length s
-ascii_bytes_le s = (front s).room
-
 -- The run up to `ascii_end`, from any offset.
 run-longest : (s : List ℕ) (from : ℕ) → AsciiRun s from (ascii_end s from)
 unfolding ascii_end

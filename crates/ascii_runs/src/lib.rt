@@ -42,8 +42,8 @@ fn ascii_in_word(s: &[u8], at: usize, passed: usize) -> usize
     low
 }
 
-// Returns the end of the run of ASCII bytes that starts at an offset. The bytes after the last whole word are read with the
-// last eight bytes of the text, if there are so many.
+// Returns the end of the run of ASCII bytes that starts at an offset. The bytes after the last whole word are read as part
+// of the last eight bytes of the text. A text of fewer bytes is read byte by byte.
 pub fn ascii_end(s: &[u8], from: usize) -> usize
     ensures { result ≡ ascii_end s.now from }
 {

@@ -1,5 +1,6 @@
--- `ascii_runs::ascii_end` meets its contract: the words before the first that is not all ASCII are a run (`words_before`, `words_all`).
-use Rattle.std.specs.Prelude.{◌≡◌, Bool, true, false, not, cond, List, [], ◌∷◌, ℕ, zero, suc, ◌+◌, ◌-◌, ◌*◌, ◌/◌, ◌≤◌, ◌<◌, drop, get_or, length, take, nat_eq, position, Option, Some, None}
+-- `ascii_runs::ascii_end` meets its contract: the words before the first that is not all ASCII are a run (`words_lead`).
+use Rattle.std.specs.Prelude.{◌≡◌, Bool, true, false, not, cond, List, ℕ, zero, suc, nat_eq, Option, Some, None}
+use Rattle.std.specs.Prelude.{◌+◌, ◌-◌, ◌*◌, ◌/◌, ◌≤◌, ◌<◌, drop, get_or, length, take}
 use Rattle.std.specs.List.{position_from}
 use Rattle.std.specs.Int.{from_le_bytes, w64}
 use Rattle.std.proofs.Common.{rules, tests}
@@ -14,11 +15,11 @@ use native.Mathlib.Omega.{arith}
 use lib.Count.{count_trailing_zeros, trailing_of_zero}
 use lib.ListN.{length-take}
 use lib.Seq.{drop-drop, take_all}
-use borrow.Author.Tests.{eqb-false, eqb-true, eq-eqb}
+use borrow.Author.Tests.{eqb-false, eqb-true}
 use Rattle.base.proofs.Words.{le_number}
 use Rattle.base.specs.Words.{number}
 use Rattle.ascii_runs.specs.Ascii.{AllUpTo, AsciiRun, ascii_bytes, ascii_end}
-use Rattle.ascii_runs.proofs.AsciiRuns.{ascii_bytes_le, at_longest, bytes_while, longest_on, run_none, run_on}
+use Rattle.ascii_runs.proofs.AsciiRuns.{at_longest, bytes_while, longest_on, run_none, run_on}
 use Rattle.ascii_runs.proofs.AsciiWords.{high, front_bytes, front-next}
 use Rattle.ascii_runs.proofs.ascii_end.Goals as goal
 
