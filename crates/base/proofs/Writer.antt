@@ -3,11 +3,11 @@
 use mathlib.Core.Path.{◌≡◌, refl, sym, ap, ap₂, ◌∙◌, subst}
 use mathlib.Core.Bool.{Bool, cond, false}
 use mathlib.Core.List.{List, [], ◌∷◌, ◌++◌}
-use Prim.Native.Nat.{ℕ, suc, ◌+◌, ◌-◌, ◌<◌, ◌≤◌}
+use Prim.Native.Nat.{ℕ, suc, ◌+◌, ◌<◌, ◌≤◌}
 use native.Mathlib.Nat.{add-suc, add-zero, suc-add}
 use native.Mathlib.Omega.{arith}
-use lib.ListN.{drop, length, length-append, length-drop, set, take, take-append-drop}
-use lib.Seq.{drop_at, drop-drop, length-sets, length-take-le, sets, sets-eq, take-add, take_all, take-append-le}
+use lib.ListN.{length, length-append, set}
+use lib.Seq.{length-sets, sets}
 use Rattle.base.specs.Output.{PutAt}
 
 pub sets_append : (o : List ℕ) (j : ℕ) (xs ys : List ℕ) → sets o j (xs ++ ys) ≡ sets (sets o j xs) (j + length xs) ys
@@ -82,57 +82,3 @@ put_as {o} {o₁} {xs} {s} {r} ys e p = subst (λ (zs : List ℕ). PutAt o s zs 
 -- Nothing is put if nothing is wanted.
 pub put_no : (o : List ℕ) (s : ℕ) (xs : List ℕ) {wanted : Bool} → wanted ≡ false → PutAt o s (cond wanted xs []) o s
 put_no o s xs e = subst (λ (b : Bool). PutAt o s (cond b xs []) o s) (sym e) (record { ends = omega arith; bytes = refl })
-
--- ---- parts of a list
-
--- A part of the list written, and the next part after it.
-pub sets_more : (o : List ℕ) (s : ℕ) (b : List ℕ) (i k : ℕ) → i ≤ length b → sets (sets o s (take i b)) (s + i) (take k (drop i b))
-    ≡ sets o s (take (i + k) b)
-sets_more o s b i k h =
-    ap (λ (n : ℕ). sets (sets o s (take i b)) (s + n) (take k (drop i b))) (sym (length-take-le i b h))
-    ∙ sym (sets_append o s (take i b) (take k (drop i b))) ∙ ap (sets o s) (sym (take-add i k b))
-
--- A list written over a list that is not longer.
-pub sets_over : (o : List ℕ) (m : ℕ) (xs ys : List ℕ) → length xs ≤ length ys → m + length ys ≤ length o → sets (sets o m xs) m ys
-    ≡ sets o m ys
-sets_over o m xs ys l h =
-    sets-eq ys A m (omega (arith, length-sets o m xs)) ∙ ap₂ (λ (a d : List ℕ). a ++ ys ++ d) before after ∙ sym (sets-eq ys o m h)
-  where
-    A : List ℕ
-    A = sets o m xs
-
-    front : List ℕ
-    front = take m o ++ xs
-
-    split : A ≡ front ++ drop (m + length xs) o
-    split = sets-eq xs o m (omega arith)
-
-    front_length : length front ≡ m + length xs
-    front_length = length-append (take m o) xs ∙ ap (λ (n : ℕ). n + length xs) (length-take-le m o (omega arith))
-
-    before : take m A ≡ take m o
-    before =
-        ap (take m) split ∙ take-append-le m front (drop (m + length xs) o) (omega (arith, front_length))
-        ∙ take-append-le m (take m o) xs (omega (arith, length-take-le m o (omega arith)))
-        ∙ take_all m (take m o) (omega (arith, length-take-le m o (omega arith)))
-
-    after : drop (m + length ys) A ≡ drop (m + length ys) o
-    after =
-        let d = length ys - length xs in
-        let e : m + length ys ≡ (m + length xs) + d = omega arith in
-        ap (λ (n : ℕ). drop n A) e ∙ sym (drop-drop d (m + length xs) A)
-        ∙ ap (drop d) (ap (drop (m + length xs)) split ∙ drop_at front (drop (m + length xs) o) (m + length xs) front_length)
-        ∙ drop-drop d (m + length xs) o ∙ ap (λ (n : ℕ). drop n o) (sym e)
-
--- The last part of the list written over bytes of which some are already written.
-pub sets_last : (o : List ℕ) (s : ℕ) (b : List ℕ) (i l : ℕ) → l ≤ i → i ≤ length b → s + length b ≤ length o
-    → sets (sets o s (take i b)) (s + l) (drop l b) ≡ sets o s b
-sets_last o s b i l h k f =
-    let e : i ≡ l + (i - l) = omega arith in
-    let t = take (i - l) (drop l b) in
-    let T = sets o s (take l b) in
-    ap (λ (q : List ℕ). sets q (s + l) (drop l b)) (ap (λ (n : ℕ). sets o s (take n b)) e ∙ sym (sets_more o s b l (i - l) (omega arith)))
-    ∙ sets_over T (s + l) t (drop l b) (omega (arith, length-take-le (i - l) (drop l b) (omega (arith, length-drop l b)), length-drop l b))
-    (omega (arith, length-drop l b, length-sets o s (take l b)))
-    ∙ ap (λ (n : ℕ). sets T (s + n) (drop l b)) (sym (length-take-le l b (omega arith))) ∙ sym (sets_append o s (take l b) (drop l b))
-    ∙ ap (sets o s) (take-append-drop l b)

@@ -105,8 +105,9 @@ fn put_word(out: &mut [u8], at: usize, x: u64)
     out[at..at + WORD_BYTES].copy_from_slice(&x.to_le_bytes());
 }
 
-// Copies bytes to an offset, one by one.
-fn put_each(out: &mut [u8], start: usize, bytes: &[u8])
+// Copies bytes to an offset. The compiler makes a call of `memcpy` of this loop. `copy_from_slice` would be a call of
+// `memmove`, which hosts in C would have to link.
+fn put_bytes(out: &mut [u8], start: usize, bytes: &[u8])
     requires { start + length bytes.now ≤ length out.old }
     ensures { out.new ≡ sets out.old start bytes.now }
 {
@@ -115,25 +116,6 @@ fn put_each(out: &mut [u8], start: usize, bytes: &[u8])
         out[at] = *byte;
         at += 1;
     }
-}
-
-// Copies bytes to an offset, eight at a time. The last eight end where the bytes end, so they may overlap the eight
-// before them. `copy_from_slice` of all bytes is a call of `memmove`, which hosts in C would have to link.
-fn put_bytes(out: &mut [u8], start: usize, bytes: &[u8])
-    requires { start + length bytes.now ≤ length out.old }
-    ensures { out.new ≡ sets out.old start bytes.now }
-{
-    if bytes.len() < WORD_BYTES {
-        put_each(out, start, bytes);
-        return;
-    }
-    let last = bytes.len() - WORD_BYTES;
-    let mut i = 0;
-    while i < last {
-        put_word(out, start + i, read_word(bytes, i));
-        i += WORD_BYTES;
-    }
-    put_word(out, start + last, read_word(bytes, last));
 }
 
 // Writes bytes at an offset and returns true. Without room for them it returns false and changes nothing.

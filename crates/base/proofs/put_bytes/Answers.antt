@@ -1,80 +1,40 @@
-use mathlib.Core.Path.{◌≡◌, refl, ap, ◌∙◌}
-use mathlib.Core.Bool.{true}
-use mathlib.Core.List.{List}
-use Prim.Native.Nat.{ℕ, ◌+◌, ◌-◌, ◌≤◌}
+use mathlib.Core.Path.{◌≡◌, refl}
+use mathlib.Core.List.{List, ◌∷◌}
+use Prim.Native.Nat.{ℕ, ◌+◌, ◌<◌}
+use native.Mathlib.Numerals.{add-one}
 use native.Mathlib.Omega.{arith}
-use lib.ListN.{drop, length, length-drop, take}
-use lib.Seq.{length-sets, sets, take_all}
-use Rattle.base.specs.Words.{all_bytes, number, word_bytes}
-use Rattle.base.proofs.Words.{bytes_all, word_read}
-use Rattle.base.proofs.Writer.{sets_last, sets_more}
+use lib.ListN.{drop, drop_of_length-le, get_or, length}
+use lib.Seq.{drop-cons}
+use Rattle.base.proofs.Writer.{Writing, begin, byte_put, byte-room, finish}
 use Rattle.base.proofs.put_bytes.Goals as goal
 
--- A word that is read from bytes and written is a copy of these bytes.
-word_put : (bytes o o' : List ℕ) (at i w : ℕ) → all_bytes bytes ≡ true → i + 8 ≤ length bytes → w ≡ number (take 8 (drop i bytes)) → o'
-    ≡ sets o at (word_bytes w)
-    → o' ≡ sets o at (take 8 (drop i bytes))
-word_put bytes o o' at i w t h r p = p ∙ ap (sets o at) (ap word_bytes r ∙ word_read bytes i t h)
+next : (xs : List ℕ) (i : ℕ) → i < length xs → drop i xs ≡ get_or xs i 0 ∷ drop (i + 1) xs
+next xs i h = rw (add-one, drop-cons xs i 0) refl
 
-pub returns-then-bytes-lt-WORD_BYTES : goal.returns-then-bytes-lt-WORD_BYTES
-returns-then-bytes-lt-WORD_BYTES c = c.put_each.ensures
+has-place : {bytes out₀ out : List ℕ} {start at : ℕ} (i : ℕ) → i < length bytes → Writing bytes start out₀ (drop i bytes) out at
+    → at < length out
+has-place {bytes} {out₀} {out} {start} i h w = byte-room bytes start out₀ (drop i bytes) w (next bytes i h)
 
-pub loop-i-init : goal.loop-i-init
-loop-i-init c = (omega arith, refl)
+pub loop-byte-init : goal.loop-byte-init
+loop-byte-init c = let a = c.args in begin a.bytes.now a.start a.out.now c.requires
 
-pub put_word-requires : goal.put_word-requires
-put_word-requires c =
-    let l = c.loop-i in
-    omega (
-      arith,
-      c.requires,
-      l.invariant.0,
-      ap length l.invariant.1
-          ∙ length-sets c.args.out.now c.args.start (take l.i c.args.bytes.now),
-    )
+pub bounds-out-at : goal.bounds-out-at
+bounds-out-at c = let l = c.loop-byte in has-place l.byte-index c.loop-byte-test.true l.invariant
 
-pub loop-i-preserved : goal.loop-i-preserved
-loop-i-preserved c =
-    let x = c.args in
-    let l = c.loop-i in
-    let b = x.bytes.now in
-    let t = bytes_all b (λ j. omega
-    (arith, c.type_inv.bytes j)) in
-    let p = word_put b l.out _ (x.start + l.i) l.i _ t (omega arith) c.read_word.ensures
-    c.put_word.ensures in (
-      omega arith,
-      p ∙ ap (λ (o : List ℕ). sets o (x.start + l.i) (take 8 (drop l.i b))) l.invariant.1
-          ∙ sets_more x.out.now x.start b l.i 8 l.invariant.0,
-    )
+pub overflow_add-at : goal.overflow_add-at
+overflow_add-at c = let l = c.loop-byte in omega (arith, has-place l.byte-index c.loop-byte-test.true l.invariant)
 
-pub put_word-requires-2 : goal.put_word-requires-2
-put_word-requires-2 c =
-    let l = c.loop-i in
-    omega (
-      arith,
-      c.requires,
-      l.invariant.0,
-      ap length l.invariant.1
-          ∙ length-sets c.args.out.now c.args.start (take l.i c.args.bytes.now),
-    )
-
-pub shape_of-out : goal.shape_of-out
-shape_of-out c =
-    let x = c.args in
-    let l = c.loop-i in
-    ap length c.put_word-2.ensures
-    ∙ simp length-sets (ap length l.invariant.1 ∙ length-sets x.out.now x.start (take l.i x.bytes.now))
+pub loop-byte-preserved : goal.loop-byte-preserved
+loop-byte-preserved c =
+    let l = c.loop-byte in
+    let a = c.args in
+    let b = a.bytes.now in
+    byte_put b a.start a.out.now (drop l.byte-index b) l.invariant (next b l.byte-index c.loop-byte-test.true)
 
 pub returns : goal.returns
 returns c =
-    let x = c.args in
-    let l = c.loop-i in
-    let b = x.bytes.now in
-    let last = length b - 8 in
-    let t = bytes_all b (λ j. omega
-    (arith, c.type_inv.bytes j)) in
-    let p = word_put b l.out _ (x.start + last) last _ t (omega arith) c.read_word-2.ensures
-    c.put_word-2.ensures in
-    p ∙ ap (sets l.out (x.start + last)) (take_all 8 (drop last b) (omega (arith, length-drop last b)))
-    ∙ ap (λ (o : List ℕ). sets o (x.start + last) (drop last b)) l.invariant.1
-    ∙ sets_last x.out.now x.start b l.i last (omega arith) l.invariant.0 c.requires
+    let l = c.loop-byte in
+    let a = c.args in
+    let b = a.bytes.now in
+    (finish b a.start a.out.now (drop l.byte-index b) l.invariant
+    (drop_of_length-le b {i = l.byte-index} (omega (arith, c.loop-byte-test.false)))).bytes

@@ -1,7 +1,0 @@
--- `base::put_each` meets its contract. The loop's invariant: the bytes so far are written.
-use lib.ListN.{drop}
-use Rattle.base.proofs.Writer.{Writing}
-use Rattle.base.proofs.put_each.Given as goal
-
-abbrev pub invariant-loop-byte : goal.invariant-loop-byte
-invariant-loop-byte l = Writing l.bytes l.fn.start l.fn.out (drop l.byte-index l.bytes) l.out l.at
