@@ -105,8 +105,8 @@ fn put_word(out: &mut [u8], at: usize, x: u64)
     out[at..at + WORD_BYTES].copy_from_slice(&x.to_le_bytes());
 }
 
-// Copies bytes to an offset. The compiler makes a call of `memcpy` of this loop. `copy_from_slice` would be a call of
-// `memmove`, which hosts in C would have to link.
+// Copies bytes to an offset. The compiler makes this loop take 32 bytes a turn, or turns it into a call of `memcpy`.
+// `copy_from_slice` of a slice is a call of `memmove`, a name that hosts in C would then have to supply too.
 fn put_bytes(out: &mut [u8], start: usize, bytes: &[u8])
     requires { start + length bytes.now ≤ length out.old }
     ensures { out.new ≡ sets out.old start bytes.now }
