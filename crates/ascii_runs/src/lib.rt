@@ -56,7 +56,7 @@ pub fn ascii_end(s: &[u8], from: usize) -> usize
         .position(|word| u64::from_le_bytes(*word) & HIGH_BITS != 0)
     {
         let at = from + i * WORD_BYTES;
-        return at + zero_bytes(base::read_word(s, at) & HIGH_BITS);
+        return at + zero_bytes(u64::from_le_bytes(words[i]) & HIGH_BITS);
     }
     if tail.is_empty() {
         return s.len();

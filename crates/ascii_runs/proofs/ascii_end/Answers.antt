@@ -1,5 +1,5 @@
 -- `ascii_runs::ascii_end` meets its contract: the words before the first that is not all ASCII are a run (`words_lead`).
-use Rattle.std.specs.Prelude.{◌≡◌, Bool, true, false, not, cond, List, ℕ, zero, suc, nat_eq, Option, Some, None}
+use Rattle.std.specs.Prelude.{◌≡◌, Bool, true, false, not, cond, List, [], ℕ, zero, suc, nat_eq, Option, Some, None}
 use Rattle.std.specs.Prelude.{◌+◌, ◌-◌, ◌*◌, ◌/◌, ◌≤◌, ◌<◌, drop, get_or, length, take}
 use Rattle.std.specs.List.{position_from}
 use Rattle.std.specs.Int.{from_le_bytes, w64}
@@ -45,6 +45,13 @@ not_zero w e z = omega (arith, eqb-false w 0 (was_false (nat_eq w 0) e), z)
 word_is : (s : List ℕ) (at : ℕ) → from_le_bytes w64 (take 8 (drop at s)) ≡ number (take 8 (drop at s))
 word_is s at =
     le_number (take 8 (drop at s)) ∙ ap number (take_all 8 (take 8 (drop at s)) (omega (arith, length-take 8 (drop at s))))
+
+-- One of the words of the text.
+word_at : (k i : ℕ) (xs : List ℕ) → i < k → get_or (first_chunks 8 k xs) i [] ≡ take 8 (drop (8 * i) xs)
+word_at zero i xs l = absurd (omega (arith, l))
+word_at (suc k) zero xs l = refl
+word_at (suc k) (suc i) xs l =
+    word_at k i (drop 8 xs) (omega (arith, l)) ∙ ap (take 8) (drop-drop (8 * i) 8 xs ∙ ap (λ (n : ℕ). drop n xs) (omega arith))
 
 -- Where the words from an offset on lead, by the answer of `position`: past all of them, or to the first that is not all ASCII.
 abbrev Led : List ℕ → ℕ → ℕ → ℕ → ℕ → Option ℕ → Type 0
@@ -120,6 +127,16 @@ module _ (s rest : List ℕ) (from : ℕ) (f : (j : ℕ) → get_or s j 0 < 256)
       at_longest (run_on 0x7F n run (front_bytes s at {w = w} v f n (omega (arith, z.0))) (omega arith) (omega (arith, q.1, z.1)))
       (λ l. subst (λ (k : ℕ). 0x7F < get_or s (at + k) 0) (sym z.0) next)
 
+  -- std's number of one of the words.
+  word_number : (i : ℕ) (words : List (List ℕ)) → words ≡ first_chunks 8 (length rest / 8) rest → i < length rest / 8
+      → from_le_bytes w64 (get_or words i []) ≡ number (take 8 (drop (from + i * 8) s))
+  word_number i words p l =
+      let d = drop-drop (8 * i) from s ∙ ap (λ (n : ℕ). drop n s) (omega arith) in
+      ap (λ (ws : List (List ℕ)). from_le_bytes w64 (get_or ws i [])) p
+      ∙ ap (from_le_bytes w64)
+      (word_at (length rest / 8) i rest l ∙ ap (λ (ys : List ℕ). take 8 (drop (8 * i) ys)) e ∙ ap (take 8) d)
+      ∙ word_is s (from + i * 8)
+
 pub returns-in-Some-position : goal.returns-in-Some-position
 returns-in-Some-position c =
     let s = c.args.s.now in
@@ -131,8 +148,10 @@ returns-in-Some-position c =
     let f = (λ (j : ℕ). (c.type_inv.s j).fits) in
     let q = words_lead s rest c.args.from f e h (Some c.in-Some-position.i) c.as_chunks.result.0.now c.as_chunks.ensures.front
     (sym c.in-Some-position.is ∙ found ∙ position_from-zero has_other c.as_chunks.result.0.now) in
-    word_ends s rest c.args.from f e h c.in-Some-position.i c.zero_bytes.result c.read_word.result q c.read_word.ensures
-    c.zero_bytes.ensures
+    let i = c.in-Some-position.i in
+    let v = c.from_le_bytes.ensures
+    ∙ word_number s rest c.args.from f e h i c.as_chunks.result.0.now c.as_chunks.ensures.front (omega (arith, q.1)) in
+    word_ends s rest c.args.from f e h i c.zero_bytes.result c.from_le_bytes.result q v c.zero_bytes.ensures
 
 pub returns-then-is_empty : goal.returns-then-is_empty
 returns-then-is_empty c =
