@@ -3,9 +3,10 @@
 // function, since it gets a `str`.
 #![tactic(auto)]
 
-ghost use Rattle.std.specs.Prelude.{◌≡◌, ◌+◌, ◌/◌, ◌≤◌, ◌<◌, get_or, length, nat_lt, take_while};
+ghost use Rattle.std.specs.Prelude.{◌≡◌, ◌+◌, ◌/◌, ◌≤◌, ◌<◌, drop, get_or, length, nat_lt, take, take_while};
 ghost use Rattle.std.specs.Int.Count.{count_trailing_zeros};
 ghost use Rattle.ascii_runs.specs.Ascii.{AllUpTo, ascii_end};
+ghost use Rattle.base.specs.Words.{number};
 
 use base::WORD_BYTES;
 
@@ -26,6 +27,16 @@ fn ascii_bytes(s: &[u8]) -> usize
     s.iter().take_while(|b| **b < 0x80).count()
 }
 
+// Returns the number that the eight bytes from the offset `at` encode. There are eight, so unlike `base::read_word` it makes
+// no test.
+fn word_at(s: &[u8], at: usize) -> u64
+    requires { at + 8 ≤ length s.now }
+    ensures { result ≡ number (take 8 (drop at s.now)) }
+{
+    let (words, _) = s[at..at + WORD_BYTES].as_chunks::<WORD_BYTES>();
+    u64::from_le_bytes(words[0])
+}
+
 // Reads the eight bytes at the offset `at`, skips the first `passed` of them, and counts the ASCII bytes before the
 // first other byte.
 fn ascii_in_word(s: &[u8], at: usize, passed: usize) -> usize
@@ -42,29 +53,29 @@ fn ascii_in_word(s: &[u8], at: usize, passed: usize) -> usize
     low
 }
 
-// Returns the end of the run of ASCII bytes that starts at an offset. The bytes after the last whole word are read as part
-// of the last eight bytes of the text. A text of fewer bytes is read byte by byte.
+// Returns the end of the run of ASCII bytes that starts at an offset. The last word ends where the bytes end, so it may
+// overlap the word before it. A loop over `as_chunks` takes more instructions for a short run, and most runs are short where
+// other letters have more bytes.
 pub fn ascii_end(s: &[u8], from: usize) -> usize
     ensures { result ≡ ascii_end s.now from }
 {
     let Some(rest) = s.get(from..) else {
         return from;
     };
-    let (words, tail) = rest.as_chunks::<WORD_BYTES>();
-    if let Some(i) = words
-        .iter()
-        .position(|word| u64::from_le_bytes(*word) & HIGH_BITS != 0)
-    {
-        let at = from + i * WORD_BYTES;
-        return at + zero_bytes(u64::from_le_bytes(words[i]) & HIGH_BITS);
-    }
-    if tail.is_empty() {
-        return s.len();
-    }
-    let at = s.len() - tail.len();
     if s.len() < WORD_BYTES {
-        return at + ascii_bytes(tail);
+        return from + ascii_bytes(rest);
     }
     let last = s.len() - WORD_BYTES;
+    let mut at = from;
+    while at <= last {
+        let high = word_at(s, at) & HIGH_BITS;
+        if high != 0 {
+            return at + zero_bytes(high);
+        }
+        at += WORD_BYTES;
+    }
+    if s.len() <= at {
+        return at;
+    }
     at + ascii_in_word(s, last, at - last)
 }

@@ -13,13 +13,17 @@ ghost use Rattle.text_pass.specs.Findings.{PlainBetween};
 use emoji::ZWJ;
 
 // Whether the character at an offset is plain by its first bytes. It has two bytes and is at least C0, or it has three bytes and lies
-// neither between 2000 and 2FFF, nor in the blocks of 3030 and 3297, nor after EFFF.
+// neither between 2000 and 2FFF, nor in the blocks of 3030 and 3297, nor after EFFF. One range is tested first, since it excludes ASCII.
 fn is_plain_at(text: &[u8], at: usize) -> bool
     requires { at < length text.now }
     ensures { result ≡ true → (v w : ℕ) → read_char (drop at text.now) ≡ Char v w → class_of v ≡ other }
 {
-    match text[at] {
-        ..0xC3 | 0xE2 | 0xEF.. => false,
+    let first = text[at];
+    if !matches!(first, 0xC3..=0xEE) {
+        return false;
+    }
+    match first {
+        0xE2 => false,
         0xE3 => {
             let second = base::byte_at(text, at, 1);
             second != 0x80 && second != 0x8A
@@ -46,12 +50,12 @@ pub(crate) fn skip_letters(text: &[u8], from: usize) -> usize
     at
 }
 
-// Whether an ASCII character is a base: #, * and the digits are.
+// Whether an ASCII character is a base: #, * and the digits are. One range is tested first, since it excludes the letters.
 #[tactic(auto, using(crate::proofs::PlainText::ascii_other))]
 fn is_ascii_base(ch: u8) -> bool
     ensures { result ≡ false → ch ≤ 0x7F → class_of ch ≡ other }
 {
-    matches!(ch, b'#' | b'*' | b'0'..=b'9')
+    matches!(ch, b'#'..=b'9') && (b'0' <= ch || ch == b'#' || ch == b'*')
 }
 
 // Skips the run of ASCII characters from one on. It does not skip a base at the end of the run, unless the text ends there.

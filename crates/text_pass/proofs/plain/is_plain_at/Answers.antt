@@ -25,8 +25,8 @@ returns-then-second c =
           (sym (eq-eqb _ 0x8A (c.byte_at-second.ensures ∙ y)) ∙ not-true _ f),
     ))
 
-pub returns-in_default : goal.returns-in_default
-returns-in_default c =
+pub returns-in_default-first : goal.returns-in_default-first
+returns-in_default-first c =
     let x = c.args in
     λ f v w r. plain_lead (step x.text.now x.at v w r) _ (byte_is x.text.now x.at) (omega arith) (omega arith) (λ y. omega (arith, y))
     (λ y. absurd (omega (arith, y)))
